@@ -1,7 +1,7 @@
 -- Entries put one by one at the places of their rows are in the order of a stable sort by rows.
 --
--- `put_pushed`: putting a list of entries with one more at its end is putting that one last.
--- `sorted_in_order`: what a stable sort by rows makes of a list is its entries put one by one at their places.
+-- `put_pushed`: inserting a list of entries with one more at its end is inserting that entry last.
+-- `sorted_in_order`: a stable sort of entries by their rows gives the entries inserted one by one at their places.
 use Rattle.std.proofs.Common.{◌≡◌, ◌≢◌, ℕ, zero, suc, ◌<◌, ◌≤◌, Bool, true, false, cond, ltb, eqb, List, []}
 use Rattle.std.proofs.Common.{◌∷◌, ◌++◌, length, drop, get_or, Less, Equal, Greater, refl, sym, ap, ap₂, ◌∙◌}
 use Rattle.std.proofs.Common.{arith}
@@ -64,7 +64,7 @@ front_above n x es l h = record { above = by; order = in_front x es h }
 all_above : (e : Entry) (es : Entries) → IsOrdered (e ∷ es) → IsAbove e.0 (e ∷ es)
 all_above e es h = front_above e.0 e es (omega arith) (first_above e es h)
 
--- an entry of row n or later, put among such entries, leaves entries of row n or later, in order
+-- an entry of row n or later, inserted among such entries, leaves entries of row n or later, in order
 put-above : (n i : ℕ) (v : ℚ) → n ≤ i → (es : Entries) → IsAbove n es → IsAbove n (put_entry i v es)
 put-above n i v l [] h =
     front_above n (i, v) [] l (record { above = λ j d m. absurd (omega arith); order = h.order })
@@ -80,11 +80,11 @@ put-above n i v l (e ∷ es) h =
         front_above n (i, v) (e ∷ es) l (front_above i e es (omega arith) behind)
     go false q behind low more = front_above n e (put_entry i v es) low (more (ltb-false i e.0 q) behind)
 
--- an entry put among ordered entries leaves them in order
+-- an entry inserted among ordered entries leaves them in order
 put-ordered : (i : ℕ) (v : ℚ) (es : Entries) → IsOrdered es → IsOrdered (put_entry i v es)
 put-ordered i v es h = (put-above 0 i v (omega arith) es (record { above = λ j d l. omega arith; order = h })).order
 
--- entries put one by one among ordered entries leave them in order
+-- entries inserted one by one among ordered entries leave them in order
 all-ordered : (placed es : Entries) → IsOrdered placed → IsOrdered (put_all placed es)
 all-ordered placed [] h = h
 all-ordered placed (e ∷ es) h = all-ordered (put_entry e.0 e.1 placed) es (put-ordered e.0 e.1 placed h)
@@ -155,7 +155,7 @@ joined : (t : Bool) (e : Entry) (es more : Entries) →
 joined true e es more = refl
 joined false e es more = refl
 
--- of one row, an entry that is put in comes after those that stand there
+-- of one row, an entry that is inserted comes after those that are there
 filter_put : (x : Entry) (i : ℕ) (v : ℚ) (es : Entries) → IsOrdered es →
     filter (tie x) (put_entry i v es) ≡ filter (tie x) es ++ filter (tie x) ((i, v) ∷ [])
 filter_put x i v [] h = refl
@@ -170,7 +170,7 @@ filter_put x i v (e ∷ es) h = go (ltb i e.0) refl (filter_put x i v es (first_
         ap (λ fs. cond (tie x e) (e ∷ fs) fs) more
         ∙ joined (tie x e) e (filter (tie x) es) (filter (tie x) ((i, v) ∷ []))
 
--- of one row, entries put in one by one come after those that stand there, in their order
+-- of one row, entries inserted one by one come after those that are there, in their order
 filter_all : (x : Entry) (placed es : Entries) → IsOrdered placed →
     filter (tie x) (put_all placed es) ≡ filter (tie x) placed ++ filter (tie x) es
 filter_all x placed [] h = sym (append-nil (filter (tie x) placed))

@@ -1,8 +1,9 @@
 -- Fields of a card that are put into a line in turn.
 --
--- `puts_done`: where the first n fields are put without a too wide one, and there are no more, all fields are.
+-- `puts_done`: where the first n fields were written, none of them too wide, and there are no more fields, all fields
+--   are written.
 -- `card_stops`: a stop that names the first too wide field of a card names that of the card's line.
--- `card_done`: where all fields are put into an empty line, the text with that line has the card added.
+-- `card_done`: where all fields of a card were written into an empty line, the text with that line has the card added.
 use Rattle.std.proofs.Common.{◌≡◌, ℕ, ◌+◌, ◌<◌, ◌≤◌, true, false, Some, None, List, [], ◌∷◌}
 use Rattle.std.proofs.Common.{◌++◌, length, take, drop, get_or, refl, sym, ◌∙◌, ap, map, Bor}
 use Rattle.std.specs.Prelude.{option_map, find}

@@ -3,7 +3,8 @@
 -- `start_reached`: the first state is reached, by no lines.
 -- `one_more`: where lines lead to a state and a line leads on, the lines with it lead to the next state.
 -- `more_reached`: a state to which a line leads from a reached state is reached.
--- `joined`: the verdict on lines that lead to a state and more lines is the verdict on the others from that state.
+-- `joined`: where lines lead to a state, the verdict on them and more lines is the verdict on the latter from that
+--   state.
 -- `ends`: where lines lead to a state and the next line ends the text with a model, the text spells this model.
 -- `refuses`: where lines lead to a state and the next line fails, the text is refused at that line with its code.
 -- `done_within`: a model with which a line ends a text, from a reached state, may be kept and is within the limits.

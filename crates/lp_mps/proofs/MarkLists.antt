@@ -13,14 +13,14 @@ use Rattle.spec_mps.specs.Reader.{is_among, same_target}
 use Rattle.lp_mps.specs.Marks.{mark_of, target_of}
 use Rattle.lp_mps.proofs.ListItems.{list_any-reverse}
 
--- the mark of a target is another mark exactly where the targets of both are the same
+-- two marks are the same exactly where they are marks of one target, which is the objective or a row
 same_mark : (t : Target) (k : Option ℕ) → option_eq nat_eq (mark_of t) k ≡ same_target t (target_of k)
 same_mark Objective None = refl
 same_mark Objective (Some j) = refl
 same_mark (Row i) None = refl
 same_mark (Row i) (Some j) = refl
 
--- the target of the mark of a target is that target
+-- a target, which is the objective or a row, is the one that its mark stands for
 target_back : (t : Target) → target_of (mark_of t) ≡ t
 target_back Objective = refl
 target_back (Row i) = refl

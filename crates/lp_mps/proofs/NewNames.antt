@@ -4,7 +4,7 @@
 -- `names_changed`: changing one item of a list by what keeps its name keeps the list of names.
 -- `written_back`: changing an item of a slice of the whole list and writing it back changes that item of the list.
 -- `rows_changed`: changing a row by what keeps its name keeps the list of names that belongs to the rows.
--- `names_beside`: where the whole columns keep their names, all names with the current column stay.
+-- `names_beside`: where the columns whose cards are all read keep their names, all names with the current column stay.
 -- `names_current`: where the current column keeps its name, all names stay.
 -- `names_sorted`: sorting the entries of the current column keeps all names.
 -- `row_placed`: a name's place in the list of names is the place of the row with that name.

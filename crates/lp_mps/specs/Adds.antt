@@ -47,7 +47,7 @@ pub record IsAdded (style : Style) (cards : WrittenCards) (before after : List �
   pub narrow : wide_in style cards ≡ None
   pub text : after ≡ before ++ cards_text style cards
 
--- so it is, or it stops at the first field that has no room
+-- the lines of cards are added to a text, or writing stops at the first field that is too wide for the form
 abbrev pub Adds : Style → WrittenCards → List ℕ → List ℕ → Result ⊤ WriteStop → Type 0
 Adds style cards before after (Ok done) = IsAdded style cards before after
 Adds style cards before after (Err stop) = Names (wide_in style cards) stop

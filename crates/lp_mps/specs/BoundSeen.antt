@@ -10,7 +10,7 @@ use Rattle.lp_mps.specs.declared.read.bound_card.BoundCard.{BoundCard}
 use Rattle.lp_mps.specs.declared.read.bound_card.BoundCard.TheVariants as card
 use Rattle.lp_mps.specs.declared.read.bounds.BoundTexts.{BoundTexts}
 
--- the definition's card
+-- the bounds that a card sets, as the definition of the reader has them
 abbrev pub bound_seen : BoundCard → bounds.BoundCard
 bound_seen (card.SetsUpper u) = bounds.SetsUpper u
 bound_seen (card.SetsLower l) = bounds.SetsLower l

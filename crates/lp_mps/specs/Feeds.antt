@@ -17,7 +17,7 @@ pub record GoesOn (outcome : Outcome) (form : Style) (n : ℕ) (new : TextRead) 
   pub style : new.style ≡ form
   pub lines : new.lines ≡ n
 
--- line n is wrong
+-- line n of a text is refused with this fault
 pub record IsRefused (outcome : Outcome) (n : ℕ) (fault : MpsFault) : Type 0 where
   pub line : fault.line ≡ n
   pub code : outcome ≡ Err fault.code

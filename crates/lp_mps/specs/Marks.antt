@@ -8,7 +8,7 @@ abbrev pub mark_of : Target → Option ℕ
 mark_of Objective = None
 mark_of (Row i) = Some i
 
--- the target that has a mark
+-- what a number is for, by its mark: the objective where the mark is none, and else the row of that number
 abbrev pub target_of : Option ℕ → Target
 target_of None = Objective
 target_of (Some i) = Row i

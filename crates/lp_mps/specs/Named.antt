@@ -13,6 +13,6 @@ pub record ColumnsRead : Type 0 where
   pub whole : List ExactColumn
   pub current : Option ExactColumn
 
--- the names are those of the whole columns, and last that of the current one
+-- the names of the columns whose cards are all read, and last that of the column whose cards are being read
 pub record AreColumns (columns : ColumnsRead) (names : List Name) : Type 0 where
   pub named : names ≡ map (λ (c : ExactColumn). c.name) (columns_with columns.whole columns.current)

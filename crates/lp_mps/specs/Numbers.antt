@@ -59,11 +59,11 @@ place_by numbers s text t = do
   put_if numbers s target v
 
 -- the state after a row's name and the text of a number, which the row gets as an entry, a right side or a range; or
--- what is wrong with them
+-- the code of their fault
 abbrev pub pair_by : Numbers → State → Name → List ℕ → Check State
 pair_by numbers s name text = need (place_of s name) code.UnknownRow >>= place_by numbers s text
 
--- such pairs in turn
+-- the state after pairs of a row's name and the text of a number, taken in turn; or the code of the first fault
 abbrev pub pairs_by : Numbers → State → List (List ℕ × List ℕ) → Check State
 pairs_by numbers s [] = Ok s
 pairs_by numbers s (pair ∷ pairs) = pair_by numbers s pair.0 pair.1 >>= λ t. pairs_by numbers t pairs

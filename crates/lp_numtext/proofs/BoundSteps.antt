@@ -110,7 +110,7 @@ lt_is x y h = by (int_lt x y) refl
     by true e = e
     by false e = absurd (omega (arith, ints, lt-false x y e))
 
--- the nearer exponent is as far past as the exponent itself
+-- a power is above 20 with the exponent that is cut off exactly where it is above 20 with the exponent itself
 near_same : (t : Bool) (n w z : ℕ) → w ≤ 2 ^ 65 → z ≤ 2 ^ 65 →
     int_lt (pos 20) (near t n +ℤ pos w -ℤ pos z) ≡ int_lt (pos 20) (signed t n +ℤ pos w -ℤ pos z)
 unfolding near

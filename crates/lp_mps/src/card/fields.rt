@@ -83,7 +83,7 @@ impl Fields {
         }
     }
 
-    /// All fields, in order.
+    /// All fields of a card, in order.
     pub fn as_slice(&self) -> &[Field]
         ensures { result.now ≡ self.now }
     {

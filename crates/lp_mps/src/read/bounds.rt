@@ -141,7 +141,7 @@ impl Draft {
         self.use_bound(alloc, kind, texts)
     }
 
-    // Sets the bounds of the column that the texts name, and puts their set in use.
+    // Sets the bounds of the column that the texts name, and makes their set the one that is used.
     #[tactic(auto, unfolding(spec_mps::specs::Bounds::use_bound))]
     fn use_bound(&mut self, alloc: Global, kind: BoundKind, texts: BoundTexts) -> Result<(), Fault>
         ensures { GivesState (bounds.use_bound (state_of self.old) kind (texts_seen texts.entry))

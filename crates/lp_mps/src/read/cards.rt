@@ -71,7 +71,7 @@ impl Draft {
         }
     }
 
-    // Reads a line's bytes.
+    // Reads the bytes of one line of a text, as a heading, a data card or a line to be skipped.
     fn text_line(
         &mut self,
         alloc: Global,

@@ -23,7 +23,7 @@ pub(crate) fn make_column(alloc: Global, name: Name) -> Column
     }
 }
 
-/// Gives the column a number: as its cost, or as an entry behind the others, unless it is 0.
+/// Gives the column a number: as its cost, or as a further entry, unless the number is 0.
 pub(crate) fn put_number(column: &mut Column, target: Target, value: Frac) -> Result<(), AllocError>
     ensures ok { OnOk result (ordered column.new ≡ reader.with_number (ordered column.old) target value) }
     ensures named { column.new.name ≡ column.old.name }

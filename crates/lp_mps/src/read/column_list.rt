@@ -44,7 +44,7 @@ impl Model for Columns {
 }
 
 impl Columns {
-    /// No columns.
+    /// A list that has no columns yet.
     pub(crate) fn new(alloc: Global) -> Self
         ensures { result ≡ record { whole = []; current = None } }
     {

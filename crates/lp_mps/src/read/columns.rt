@@ -18,7 +18,7 @@ use spec_model::SizeLimits;
 use spec_mps::{Code, Section, Style};
 use std::alloc::{AllocError, Global};
 
-// The field that says 'MARKER' on a card that marks whole columns.
+// The number of the field that says 'MARKER' on a card that marks integer columns.
 fn marker_field(style: Style) -> u32
     ensures { result ≡ reader.marker_field style }
 {

@@ -62,7 +62,7 @@ impl Draft {
         }
     }
 
-    /// Forgets what was read.
+    /// Forgets all that was read, so that another text may be read.
     pub(crate) fn restart(&mut self, alloc: Global)
         ensures { state_of self.new ≡ reader.start }
     {

@@ -91,7 +91,7 @@ impl ReaderWithin {
         self.limits
     }
 
-    /// Takes the next line.
+    /// Takes the next line of a text, and gives the model or a fault where the text ends with it.
     pub fn feed(&mut self, alloc: Global, line: &Line) -> Feed<Model, MpsFault>
         requires { self.old.text.lines < 2 ^ 32 - 1 }
         ensures feeds { Feeds (step self.old.limits self.old.text.style self.old.text.state line.now)

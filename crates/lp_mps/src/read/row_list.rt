@@ -47,7 +47,7 @@ impl Model for Rows {
 }
 
 impl Rows {
-    /// No rows.
+    /// A list that has no rows yet.
     pub(crate) fn new(alloc: Global) -> Self
         ensures { result ≡ [] }
     {

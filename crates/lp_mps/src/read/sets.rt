@@ -65,7 +65,7 @@ pub(crate) fn is_used(first: &FirstSet, set: Option<&[u8]>) -> bool
 }
 
 impl Draft {
-    /// Puts the set in use, so that cards of other sets of the section are skipped.
+    /// Makes the set the one that is used, so that cards of other sets of the section are skipped.
     pub(crate) fn use_set(&mut self, alloc: Global, set: Option<&[u8]>) -> Result<(), AllocError>
         ensures { OnOk result
             (state_of self.new ≡ record (state_of self.old) { set = Some (option_copied set.entry) }) }

@@ -26,7 +26,7 @@ impl Model for Targets {
 }
 
 impl Targets {
-    /// The empty list.
+    /// A list that has no targets yet.
     pub(crate) fn new(alloc: Global) -> Self
         ensures { result ≡ [] }
     {
@@ -44,7 +44,7 @@ impl Targets {
         Ok(is_new)
     }
 
-    /// Removes all targets.
+    /// Removes all targets from the list.
     pub(crate) fn clear(&mut self)
         ensures { self.new ≡ [] }
     {

@@ -41,7 +41,7 @@ impl Reader {
         }
     }
 
-    /// Takes the next line.
+    /// Takes the next line of a text, and gives the model or a fault where the text ends with it.
     pub fn feed(&mut self, alloc: Global, line: &Line) -> Feed<UsualModel, MpsFault>
         requires { self.old.lines < 2 ^ 32 - 1 }
         ensures { Feeds (step usual_limits self.old.style self.old.state line.now) self.old.style
