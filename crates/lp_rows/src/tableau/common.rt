@@ -7,6 +7,7 @@ ghost use Rattle.lp_rows.specs.Ratio.{bound_of};
 ghost use Rattle.lp_rows.specs.Held.{whole_of, IsRowOf, IsRowWith};
 
 use crate::fractions::Row;
+use crate::overflow::Overflow;
 use lp_frac::{Frac, den, num};
 use lp_natural::words::{Signed, Words, from_number, from_whole, quotient, some_common, times};
 use std::alloc::{AllocError, Global};
@@ -121,16 +122,16 @@ fn numbers_on<T: Words>(
 }
 
 // A bound as a whole number on a denominator.
-fn bound_on<T: Words>(bound: Option<Frac>, denominator: T) -> Option<Option<Signed<T>>>
+fn bound_on<T: Words>(bound: Option<Frac>, denominator: T) -> Result<Option<Signed<T>>, Overflow>
     requires { 0 < T.value denominator }
-    ensures { IfSome result (λ b. bound_of T.value (T.value denominator) b ≡ bound) }
+    ensures { IfOk result (λ b. bound_of T.value (T.value denominator) b ≡ bound) }
 {
     match bound {
         Some(f) => match on(f, denominator) {
-            Some(number) => Some(Some(number)),
-            None => None,
+            Some(number) => Ok(Some(number)),
+            None => Err(Overflow),
         },
-        None => Some(None),
+        None => Ok(None),
     }
 }
 
@@ -146,8 +147,8 @@ pub fn bounds_on<T: Words>(
     let mut numbers = Vec::new(alloc);
     for bound in bounds {
         match bound_on(*bound, denominator) {
-            Some(number) => numbers.push(number)?,
-            None => return Ok(None),
+            Ok(number) => numbers.push(number)?,
+            Err(Overflow) => return Ok(None),
         }
     }
     Ok(Some(numbers))

@@ -5,6 +5,7 @@ ghost use Rattle.lp_rows.specs.Held.{whole_of, wholes, whole_bounds, whole_row, 
 ghost use Rattle.lp_rows.specs.Shows.{IsWhole, Shows, height};
 
 use crate::fractions::Row;
+use crate::overflow::Overflow;
 use crate::tableau::tableau::RowTableau;
 use lp_natural::words::{Signed, Words, converted};
 use std::alloc::{AllocError, Global};
@@ -40,15 +41,15 @@ fn numbers<T: Words, U: Words>(
 }
 
 // The same bound, if it does not overflow the other width.
-fn bound<T: Words, U: Words>(b: Option<Signed<T>>) -> Option<Option<Signed<U>>>
-    ensures { IfSome result (λ c. option_map (whole_of U.value) c ≡ option_map (whole_of T.value) b) }
+fn bound<T: Words, U: Words>(b: Option<Signed<T>>) -> Result<Option<Signed<U>>, Overflow>
+    ensures { IfOk result (λ c. option_map (whole_of U.value) c ≡ option_map (whole_of T.value) b) }
 {
     match b {
         Some(n) => match number(n) {
-            Some(number) => Some(Some(number)),
-            None => None,
+            Some(number) => Ok(Some(number)),
+            None => Err(Overflow),
         },
-        None => Some(None),
+        None => Ok(None),
     }
 }
 
@@ -62,8 +63,8 @@ fn bounds<T: Words, U: Words>(
     let mut list = Vec::new(alloc);
     for b in from {
         match bound(*b) {
-            Some(bound) => list.push(bound)?,
-            None => return Ok(None),
+            Ok(bound) => list.push(bound)?,
+            Err(Overflow) => return Ok(None),
         }
     }
     Ok(Some(list))
