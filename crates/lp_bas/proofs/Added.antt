@@ -2,8 +2,8 @@
 --
 -- `joined`: a text to which some cards and then others were added has all of them added.
 -- `one_more`: adding the card of the item at place k to those of the first k items gives those of the first k + 1.
--- `one_pair`: adding the card of the pair at place k of two lists to those before it gives those of the first k + 1
---   pairs.
+-- `one_pair`: adding the card of the pair at place k of two lists to the cards of the pairs before it gives those of
+--   the first k + 1 pairs.
 -- `all_pairs`: where one of the two lists has no item left, the cards of all their pairs are added.
 -- `all_cards`: the cards of the pairs and then of the columns at their upper bounds are all cards of the basis.
 use Rattle.std.proofs.Common.{◌≡◌, ℕ, ◌+◌, ◌<◌, ◌≤◌, List, [], ◌∷◌, ◌++◌, length, take, map, get_or, sym, ap, ◌∙◌}
@@ -23,7 +23,7 @@ use Rattle.std.proofs.lemmas.List.{take_more}
 use Rattle.spec_mps.specs.declared.style.Style.TheVariants.{Free}
 use Rattle.spec_mps.specs.Written.{WrittenCard, WrittenCards, cards_text, line_text}
 
--- the text of cards and others behind them is the text of the first and then that of the others
+-- the text of two lists of cards is the text of the first and then the text of the second
 text-append : (cs ds : WrittenCards) → cards_text Free (cs ++ ds) ≡ cards_text Free cs ++ cards_text Free ds
 text-append cs ds = flat_map-append (λ card. line_text Free card ++ 10 ∷ []) cs ds
 

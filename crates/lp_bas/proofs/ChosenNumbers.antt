@@ -22,7 +22,7 @@ chosen_no test k xs h t =
     h ∙ sym (append-nil (chosen k test)) ∙ ap (λ c. chosen k test ++ cond c (k ∷ []) []) (sym t)
     ∙ sym (chosen_more test k) ∙ ap (λ n. chosen n test) (sym (add-one k))
 
--- they are below the number of all
+-- where all numbers of a list have a property and k has it, the list with k added, or not, by a test has it
 one_inside : (P : ℕ → Type 0) (xs : List ℕ) (c : Bool) (k : ℕ) → All P xs → P k → All P (xs ++ cond c (k ∷ []) [])
 one_inside P xs true k h p = All-push P xs k h p
 one_inside P xs false k h p = subst (All P) (sym (append-nil xs)) h

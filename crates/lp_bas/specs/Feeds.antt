@@ -10,19 +10,19 @@ use Rattle.lp_base.specs.declared.feed.Feed.{Feed}
 use Rattle.lp_base.specs.declared.feed.Feed.TheVariants as feed
 use Rattle.lp_bas.specs.FileRead.{FileRead}
 
--- the file continues
+-- the line does not end the basis file, and the reader is in the state behind it
 pub record GoesOn (f : Form) (outcome : Outcome) (old new : FileRead) : Type 0 where
   pub state : outcome ≡ Ok (More new.state)
   pub lines : new.lines ≡ old.lines + 1
   pub marking : IsMarking f new.state
 
--- it has ended, with a basis of the form
+-- the line ends the basis file, with a basis of the form
 pub record Ends (f : Form) (outcome : Outcome) (old new : FileRead) (basis : List Status) : Type 0 where
   pub state : outcome ≡ Ok (Done basis)
   pub fits : IsBasisOf f basis
   pub kept : new ≡ old
 
--- the line is wrong
+-- the line is refused with this fault, and the reader's state stays
 pub record IsWrong (outcome : Outcome) (old new : FileRead) (fault : BasFault) : Type 0 where
   pub state : outcome ≡ Err fault.code
   pub line : fault.line ≡ old.lines + 1

@@ -2,7 +2,7 @@
 use Rattle.std.specs.Prelude.{ℕ}
 use Rattle.spec_bas.specs.Steps.{State}
 
--- what was read so far, and of how many lines
+-- the state of a reader of a basis file, and the number of lines that it has read
 pub record FileRead : Type 0 where
   pub state : State
   pub lines : ℕ

@@ -65,7 +65,7 @@ impl std::marker::Model for Marks {
 }
 
 impl Marks {
-    /// Marks of which none is set, for a file without a card.
+    /// The state before the first card of a basis file: no column has a status from a card.
     pub fn new(alloc: Global, form: &LargeForm) -> Result<Self, AllocError>
         ensures { IfOk result (λ marks. marks ≡ file.start form.now) }
     {

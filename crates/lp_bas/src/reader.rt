@@ -43,7 +43,7 @@ impl BasReader {
         Ok(BasReader { marks, lines: 0 })
     }
 
-    /// Takes the next line.
+    /// Takes the next line of a basis file, and gives the basis or a fault where the file ends with it.
     pub fn feed(
         &mut self,
         alloc: Global,

@@ -96,7 +96,7 @@ fn text_reading(alloc: Global, bytes: &[u8]) -> Result<Reading, AllocError>
     }
 }
 
-/// What a line is.
+/// What a line of a basis file is: a card, a heading, a line to be skipped, or a fault.
 #[tactic(auto, unfolding(spec_bas::specs::Cards::reading_of))]
 pub(crate) fn reading_of(alloc: Global, line: &Line) -> Result<Reading, AllocError>
     ensures { IfOk result (λ reading. reading ≡ cards.reading_of line.now) }

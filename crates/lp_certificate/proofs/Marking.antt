@@ -1,7 +1,7 @@
 -- The marks of the places that were given a number: one part more is one mark more.
 --
--- `marked_has`: marking a place keeps that there is a mark for each column and row.
--- `nothing_has`: lists of as many unset marks as there are columns, rows and columns have a mark for each.
+-- `marked_has`: noting one more number keeps that there is a note for each column and row.
+-- `nothing_has`: lists of false as long as the columns, the rows and the columns have a note for each.
 use Rattle.std.proofs.Common.{◌≡◌, ℕ, zero, suc, ◌<◌, Bool, true, false, ◌&&◌, ◌||◌, Some, List, [], ◌∷◌, ◌++◌, length, get_or, set}
 use Rattle.std.proofs.Common.{refl, sym, ap, ap₂, ◌∙◌, subst, ⊎_elim, ◌≢◌, get_or-set_same, get_or-set_other, length-set}
 use Rattle.std.specs.Prelude.{replicate}
@@ -49,7 +49,7 @@ one_place m letter a b j k e f g =
 
 -- ---- no mark yet
 
--- in a list of unset marks no mark is set at any place
+-- in a list of n false tests no place is true
 none_at : (n k : ℕ) → get_or (replicate n false) k false ≡ false
 none_at zero zero = refl
 none_at zero (suc k) = refl

@@ -2,7 +2,7 @@
 use Rattle.std.specs.Prelude.{ℕ, Option}
 use Rattle.spec_check.specs.Raw.{RawOf}
 
--- what was read so far, and of how many lines
+-- the state of a reader of a certificate: the kind and the parts that were read, if any, and the number of lines
 pub record CertificateRead (F : Type 0) : Type 0 where
   pub raw : Option (RawOf F)
   pub lines : ℕ

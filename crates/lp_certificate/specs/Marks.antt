@@ -8,23 +8,23 @@ use Rattle.spec_check.specs.Settle.{place_of, is_given}
 use Rattle.lp_certificate.specs.declared.given.Given.{Given}
 use Rattle.lp_certificate.specs.Letters.{count_of}
 
--- the marks of a letter
+-- which columns or rows have a number already, for the letter X, Y or R of a part
 abbrev pub marks_of : Letter → Given → List Bool
 marks_of X g = g.x
 marks_of Y g = g.y
 marks_of R g = g.r
 
--- the place of the letter is marked too
+-- the notes of which columns and rows have a number, with that of number k for this letter added
 abbrev pub with_mark : Letter → ℕ → Given → Given
 with_mark X k g = record g { x = slice_set g.x k true }
 with_mark Y k g = record g { y = slice_set g.y k true }
 with_mark R k g = record g { r = slice_set g.r k true }
 
--- a mark for each column or row
+-- for each letter there is a note for each column or row of the model
 abbrev pub HasMarks : Model → Given → Type 0
 HasMarks m g = (letter : Letter) → length (marks_of letter g) ≡ count_of m letter
 
--- the mark at a name's place says whether a part has this name
+-- the note at a name's place says whether a part gives this name a number
 abbrev pub AreMarks : {F : Type 0} → Model → List (PartOf F) → Given → Type 0
 AreMarks m parts g =
     (letter : Letter) (name : Name) (k : ℕ) → place_of m letter name ≡ Some k →

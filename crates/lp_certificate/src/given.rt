@@ -25,7 +25,7 @@ impl Drop for Given {
     }
 }
 
-// A list of `count` unset marks.
+// A list of `count` notes, of which none says that a number was given.
 fn unmarked(alloc: Global, count: u32) -> Result<Items<bool>, AllocError>
     ensures { IfOk result (λ marks. marks ≡ replicate count false) }
 {
@@ -34,7 +34,7 @@ fn unmarked(alloc: Global, count: u32) -> Result<Items<bool>, AllocError>
 }
 
 impl Given {
-    /// Marks that say that nothing was given.
+    /// Notes for all columns and rows that say that no number was given.
     pub(crate) fn nothing(alloc: Global, model: &Model) -> Result<Given, AllocError>
         ensures x { IfOk result (λ given. given.x ≡ replicate (width model.now) false) }
         ensures y { IfOk result (λ given. given.y ≡ replicate (height model.now) false) }

@@ -34,7 +34,7 @@ impl From<AllocError> for SettleError {
     }
 }
 
-// The error that no column or row has this name, or that there is no memory to say so.
+// The error that no column or row has this name, or the error that memory ran out.
 fn unknown(alloc: Global, name: &Name) -> SettleError
     ensures { IsUnknown name.now result }
 {
@@ -44,7 +44,7 @@ fn unknown(alloc: Global, name: &Name) -> SettleError
     }
 }
 
-// The error that the name was given a number before, or that there is no memory to say so.
+// The error that the name was given a number before, or the error that memory ran out.
 fn repeated(alloc: Global, name: &Name) -> SettleError
     ensures { IsRepeated name.now result }
 {
@@ -138,7 +138,7 @@ fn set<N: Drop>(cert: &mut CertificateOf<N>, letter: Letter, k: u32, value: N)
     }
 }
 
-// Sets the number that the part gives, and marks its place. A place that is marked already is an error.
+// Sets the number that the part gives, and notes that it was given. A number that was given before is an error.
 #[tactic(auto, unfolding(spec_check::specs::Settle::put))]
 fn put<N: Number>(
     alloc: Global,

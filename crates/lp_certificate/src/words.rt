@@ -30,7 +30,7 @@ fn takes(kind: &CertificateKind, letter: Letter) -> bool
     }
 }
 
-// The kind that one word says.
+// The kind of certificate that a line of this one word begins, if it begins one.
 #[tactic(auto, unfolding(spec_certificate::specs::Text::kind_of))]
 fn kind_by_word(word: &[u8]) -> Option<CertificateKind>
     ensures { result ≡ certificate.kind_of (word.now ∷ []) }

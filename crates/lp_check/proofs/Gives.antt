@@ -1,8 +1,10 @@
 -- The checker's conditions at numbers of any width: what each test of the code says of a run without a limit.
 --
 -- `taken_is`: the run without a limit that takes a row's limit ends with that limit.
--- `least_is`: `at_least` fails where the comparison of the number with the limit says less, and passes otherwise.
--- `most_is`: `at_most` fails where the comparison of the number with the limit says greater, and passes otherwise.
+-- `least_is`: `at_least` fails where comparing the number with the limit gives less, and passes where it gives equal or
+--   greater.
+-- `most_is`: `at_most` fails where comparing the number with the limit gives greater, and passes where it gives equal
+--   or less.
 -- `stands_is`: a number stands at a limit where the comparison of the two says equal.
 -- `plus_no_left`: adding a product whose left factor is 0 leaves the sum.
 -- `plus_no_right`: adding a product whose right factor is 0 leaves the sum.

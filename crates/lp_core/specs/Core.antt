@@ -15,7 +15,7 @@ use Rattle.spec_world.specs.Sound.{IsSound}
 use Rattle.lp_core.specs.declared.stage.Stage.{Stage}
 use Rattle.lp_core.specs.declared.stage.Stage.TheVariants as stage
 
--- where a session is in its ask, without what it read
+-- where a session is in its request, without what it read
 pub data Step : Type 0 where
   Idle : Step
   Counts : (shape : Words) → Step
@@ -43,7 +43,7 @@ with_pending Nothing step = Idle
 with_pending (WhatIsFound shape) step = Idle
 with_pending (WhatBecameOf pending) step = step pending
 
--- where a session is in its ask, by the code's stage and by what the session awaits
+-- where a session is in its request, by the code's stage and by what the session awaits
 abbrev pub step_of : Stage → Awaits → Step
 step_of stage.Idle awaits = Idle
 step_of (stage.Counts shape) awaits = Counts shape

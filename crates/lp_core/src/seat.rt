@@ -116,7 +116,7 @@ impl Seat {
         }
     }
 
-    // The session is asked, if it is in no ask. It replies, or goes on with a look for its shape.
+    // The session is asked, if it is in no request. It replies, or goes on with a look for its shape.
     fn ask(
         &mut self,
         alloc: Global,

@@ -53,7 +53,7 @@ impl Drop for Basis {
     }
 }
 
-// The logical columns.
+// The numbers of the logical columns, one for each row.
 fn logicals(alloc: Global, program: &Program) -> Result<Vec<usize>, AllocError> {
     let mut head = Vec::with_capacity(alloc, program.rows)?;
     for i in 0..program.rows {
@@ -62,7 +62,7 @@ fn logicals(alloc: Global, program: &Program) -> Result<Vec<usize>, AllocError> 
     Ok(head)
 }
 
-// Puts the numbers of a line into the column of a matrix.
+// Adds the numbers of a line to the matrix's column that is not ended.
 fn put_line(matrix: &mut Matrix<f64>, line: &[Entry<f64>]) -> Result<(), AllocError> {
     for entry in line {
         matrix.put(entry.place, entry.value)?;
@@ -70,7 +70,7 @@ fn put_line(matrix: &mut Matrix<f64>, line: &[Entry<f64>]) -> Result<(), AllocEr
     Ok(())
 }
 
-// Puts a column of the program into a matrix.
+// Adds a column of the program to a matrix, and ends it.
 fn put_column(matrix: &mut Matrix<f64>, program: &Program, k: usize) -> Result<(), AllocError> {
     if program.is_logical(k) {
         matrix.put(program.row_of(k), -1.0)?;
@@ -89,7 +89,7 @@ fn matrix_of(alloc: Global, program: &Program, head: &[usize]) -> Result<Matrix<
     Ok(matrix)
 }
 
-// Puts the logical columns of rows in place of the columns at positions.
+// Makes the logical columns of the given rows basic in place of the columns at the given positions.
 fn mend(head: &mut [usize], program: &Program, rows: &[usize], places: &[usize]) {
     for (row, place) in rows.iter().zip(places) {
         put_index(head, *place, program.logical(*row));
@@ -140,7 +140,7 @@ fn factors_or_logical(
     }
 }
 
-// Puts the position of each of so many columns.
+// Notes for each of `len` columns its position in the basis, or that it has none.
 fn put_places(place: &mut Vec<usize>, head: &[usize], len: usize) -> Result<(), AllocError> {
     place.clear();
     place.resize(len, NOWHERE)?;
@@ -189,7 +189,7 @@ impl Basis {
         put_places(&mut self.place, &self.head, program.len())
     }
 
-    /// Makes the factors anew.
+    /// Factors the basis anew, and forgets the changes since the last factors.
     pub(crate) fn renew(&mut self, alloc: Global, program: &Program) -> Result<(), AllocError> {
         self.places.clear();
         self.pivots.clear();
@@ -274,7 +274,7 @@ impl Basis {
         self.changes.end()
     }
 
-    /// Puts a column at a position, given its solution by the basis.
+    /// Makes a column basic at a position in place of the one there, given its solution by the basis.
     pub(crate) fn change(
         &mut self,
         place: usize,

@@ -59,7 +59,7 @@ struct Pivot {
     entering: usize,
 }
 
-// The position that leaves.
+// The position whose column leaves: that whose squared distance from its bounds is greatest over its weight.
 fn leaving(state: &State) -> Option<usize> {
     let mut found = None;
     let mut most = 0.0;
@@ -88,8 +88,8 @@ pub(crate) fn exchange_reduced(state: &mut State, entering: usize, leaving: usiz
     put(&mut state.reduced, leaving, -step);
 }
 
-// Puts the columns at their other bounds. The change in each row that the basic columns have to make up for is added to
-// `by_row`.
+// Moves the columns to their other bounds. The change in each row, for which the basic columns have to make up, is
+// added to `by_row`.
 fn turn_all(state: &mut State, program: &Program, flips: &[usize]) -> Result<(), AllocError> {
     for k in flips {
         let before = at(&state.value, *k);
@@ -168,7 +168,7 @@ fn update_weights(state: &mut State, place: usize, norm: f64) -> Result<(), Allo
     Ok(())
 }
 
-/// Puts the entering column at the position of the leaving one, which goes to a bound.
+/// Makes the entering column basic at the position of the leaving one, which goes to a bound.
 pub(crate) fn exchange(
     state: &mut State,
     place: usize,
@@ -193,7 +193,7 @@ fn shift(state: &mut State, k: usize) {
     put(&mut state.reduced, k, 0.0);
 }
 
-// Makes the exchange.
+// Makes the pivot that the trial found: flips, moves and exchanges columns.
 fn apply(
     state: &mut State,
     program: &Program,
@@ -223,7 +223,7 @@ fn apply(
     exchange(state, place, entering, to)
 }
 
-// Corrects the weight of a position by the norm of its row. Whether it was far off.
+// Sets the weight of a position to the norm of its row. Says whether it was far off.
 fn correct_weight(state: &mut State, place: usize, norm: f64) -> bool {
     let weight = at(&state.weight, place);
     put(&mut state.weight, place, norm.max(LEAST_WEIGHT));

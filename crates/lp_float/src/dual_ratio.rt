@@ -71,7 +71,7 @@ impl Trial {
     }
 }
 
-// The way in which a column may move: up (1), down (-1), or as its number asks.
+// The way in which a column may move: up (1), down (-1), or by the sign of its number where it is at no bound.
 fn way(status: Status, number: f64) -> f64 {
     match status {
         Status::AtLower => 1.0,
@@ -99,7 +99,7 @@ fn candidate_of(state: &State, column: usize, turn: f64, least: f64) -> Option<C
     }
 }
 
-// Finds the candidates.
+// Collects the columns that may enter, with their costs and numbers.
 fn collect(state: &State, turn: f64, least: f64, trial: &mut Trial) -> Result<(), AllocError> {
     trial.waiting.clear();
     trial.taken.clear();
@@ -113,7 +113,7 @@ fn collect(state: &State, turn: f64, least: f64, trial: &mut Trial) -> Result<()
     Ok(())
 }
 
-// How far reduced costs may go until one of those that wait is wrong by more than the tolerance.
+// How far reduced costs may go until one of the candidates that are left is wrong by more than the tolerance.
 fn reach(waiting: &[Candidate], tolerance: f64) -> f64 {
     let mut least = f64::INFINITY;
     for candidate in waiting {
@@ -123,14 +123,14 @@ fn reach(waiting: &[Candidate], tolerance: f64) -> f64 {
     least
 }
 
-// Keeps a candidate waiting.
+// Keeps a candidate for the next groups, at place `k` of the list.
 fn keep(waiting: &mut [Candidate], k: usize, candidate: Candidate) {
     if let Some(place) = waiting.get_mut(k) {
         *place = candidate;
     }
 }
 
-// Takes the next group, those within reach, out of those that wait. Returns what is left of the slope.
+// Moves the candidates within reach to the group of those that are taken. Gives the slope that is left behind them.
 fn take(trial: &mut Trial, reach: f64, slope: f64) -> Result<f64, AllocError> {
     let mut left = slope;
     let mut kept = 0usize;

@@ -96,7 +96,7 @@ fn add_rows(program: &mut Program, model: &Model) -> Result<(), AllocError> {
     Ok(())
 }
 
-// Puts the numbers of a column into a line.
+// Adds the entries of a column, in floats, as one line.
 fn put_line(lines: &mut Lines<f64>, entries: &[(u32, Frac)]) -> Result<(), AllocError> {
     for (i, number) in entries {
         lines.put(*i as usize, float(*number))?;
@@ -104,7 +104,7 @@ fn put_line(lines: &mut Lines<f64>, entries: &[(u32, Frac)]) -> Result<(), Alloc
     lines.end()
 }
 
-// Puts the numbers of the structural columns.
+// Adds a line for each structural column of a model.
 fn put_lines(lines: &mut Lines<f64>, model: &Model) -> Result<(), AllocError> {
     for j in 0..model.cols() {
         put_line(lines, model.entries(j))?;
@@ -112,7 +112,7 @@ fn put_lines(lines: &mut Lines<f64>, model: &Model) -> Result<(), AllocError> {
     Ok(())
 }
 
-// Puts all of a model into a program with no columns.
+// Adds the columns and the rows of a model to a program without columns.
 fn put_model(alloc: Global, program: &mut Program, model: &Model) -> Result<(), AllocError> {
     add_columns(program, model)?;
     add_rows(program, model)?;
@@ -122,7 +122,8 @@ fn put_model(alloc: Global, program: &mut Program, model: &Model) -> Result<(), 
     Ok(())
 }
 
-/// The program of a model in floats, scaled by powers of two. A model that asks for the most has its costs negated.
+/// The program of a model in floats, scaled by powers of two. Where the model is to be maximized, its costs are
+/// negated.
 pub(crate) fn program_of(alloc: Global, model: &Model) -> Result<Program, AllocError> {
     let mut program = empty_program(alloc, model);
     put_model(alloc, &mut program, model)?;

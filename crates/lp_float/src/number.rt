@@ -10,7 +10,7 @@ pub(crate) fn at(list: &[f64], k: usize) -> f64 {
     }
 }
 
-/// Puts a number at `k`, if the list is that long.
+/// Sets the number at `k`, if the list is that long.
 #[inline(always)]
 pub(crate) fn put(list: &mut [f64], k: usize, number: f64) {
     if let Some(place) = list.get_mut(k) {
@@ -44,7 +44,7 @@ pub(crate) fn flag_at(list: &[bool], k: usize) -> bool {
     }
 }
 
-/// Puts an index at `k`, if the list is that long.
+/// Sets the index at `k`, if the list is that long.
 #[inline(always)]
 pub(crate) fn put_index(list: &mut [usize], k: usize, index: usize) {
     if let Some(place) = list.get_mut(k) {
@@ -52,14 +52,14 @@ pub(crate) fn put_index(list: &mut [usize], k: usize, index: usize) {
     }
 }
 
-/// Puts the same number at each place.
+/// Sets all numbers of a list to one number.
 pub(crate) fn fill(list: &mut [f64], with: f64) {
     for number in list.iter_mut() {
         *number = with;
     }
 }
 
-/// Copies numbers.
+/// Copies the numbers of one list to another, as many as both have.
 pub(crate) fn copy(list: &mut [f64], from: &[f64]) {
     for (number, other) in list.iter_mut().zip(from) {
         *number = *other;
@@ -76,7 +76,7 @@ pub(crate) fn product(list: &[f64], line: &[Entry<f64>]) -> f64 {
     sum
 }
 
-/// The greatest magnitude.
+/// The greatest absolute value in a list; 0 for an empty one.
 pub(crate) fn greatest(list: &[f64]) -> f64 {
     let mut most = 0.0;
     for number in list {

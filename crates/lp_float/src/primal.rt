@@ -53,7 +53,8 @@ fn sign(outside: f64, tolerance: f64) -> f64 {
     }
 }
 
-// Puts the costs of the sum of infeasibilities by position. Whether one is not 0.
+// Sets the costs of phase one by position: the sign of each basic column that is outside its bounds. Says whether there
+// is one.
 fn put_signs(state: &mut State) -> Result<bool, AllocError> {
     state.room.by_place.clear();
     for p in 0..state.basis.head.len() {
@@ -76,7 +77,7 @@ fn price_outside(state: &mut State, program: &Program) -> Result<bool, AllocErro
     Ok(is_outside)
 }
 
-// The column that enters.
+// The column that enters: that with the greatest square of its wrong reduced cost over its reference weight.
 fn priced(state: &State) -> Option<usize> {
     let mut found = None;
     let mut most = 0.0;
@@ -234,7 +235,7 @@ fn rebuild(alloc: Global, state: &mut State, program: &Program) -> Result<(), Al
     reduce(state, program)
 }
 
-/// Runs the primal method.
+/// Runs the primal simplex method in floats from the state's basis, for at most `effort` steps.
 pub(crate) fn run_primal(
     alloc: Global,
     state: &mut State,

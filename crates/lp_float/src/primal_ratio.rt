@@ -14,8 +14,8 @@ pub(crate) struct Block {
     pub(crate) to: Status,
 }
 
-// The bound that stops a column that goes up, and how far it is off. One that is below its bounds goes through to the upper
-// one, if it has that.
+// The bound that stops a column that goes up, and the distance to it. One that is below its bounds passes the lower
+// one, if it has an upper one.
 fn goal_above(state: &State, k: usize) -> Option<(f64, Status)> {
     let value = at(&state.value, k);
     let upper = at(&state.upper, k);
@@ -33,7 +33,8 @@ fn goal_above(state: &State, k: usize) -> Option<(f64, Status)> {
     }
 }
 
-// The same for a column that goes down.
+// The bound that stops a column that goes down, and the distance to it. One that is above its bounds passes the upper
+// one, if it has a lower one.
 fn goal_below(state: &State, k: usize) -> Option<(f64, Status)> {
     let value = at(&state.value, k);
     let upper = at(&state.upper, k);
@@ -51,7 +52,7 @@ fn goal_below(state: &State, k: usize) -> Option<(f64, Status)> {
     }
 }
 
-// The bound that stops a basic column at this rate, and how far it is off.
+// The bound that stops a basic column that moves at this rate, and the distance to it.
 fn goal(state: &State, k: usize, rate: f64) -> Option<(f64, Status)> {
     if rate > NO_RATE {
         goal_above(state, k)

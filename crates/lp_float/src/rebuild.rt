@@ -57,7 +57,7 @@ pub(crate) fn evaluate(state: &mut State, program: &Program) -> Result<(), Alloc
     Ok(())
 }
 
-// Puts the costs of the basic columns as right sides.
+// Sets the costs of the basic columns as right sides, by position.
 fn put_costs(state: &mut State) -> Result<(), AllocError> {
     state.room.by_place.clear();
     for (p, k) in state.basis.head.iter().enumerate() {

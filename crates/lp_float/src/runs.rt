@@ -82,7 +82,7 @@ pub(crate) fn logical_start(alloc: Global, program: &Program) -> Result<Vec<Stat
     Ok(list)
 }
 
-// How far the cost of a column is moved, by a part of the costs.
+// By how much the cost of a column is changed so that ties between columns are rare.
 fn shift_of(program: &Program, k: usize, base: f64, seed: u64) -> f64 {
     let lower = at(&program.lower, k);
     let upper = at(&program.upper, k);
@@ -123,7 +123,7 @@ fn box_of(lower: f64, upper: f64) -> (f64, f64) {
     }
 }
 
-// Puts boxes in place of the bounds: where a basis is optimal in them at 0, its reduced costs are right without them.
+// Replaces the bounds by boxes: where a basis is optimal in them at 0, its reduced costs are right without them.
 fn put_boxes(state: &mut State, program: &Program) {
     for k in 0..program.len() {
         let (lower, upper) = box_of(at(&program.lower, k), at(&program.upper, k));
@@ -132,13 +132,13 @@ fn put_boxes(state: &mut State, program: &Program) {
     }
 }
 
-// Puts the bounds back.
+// Sets the bounds of the program again.
 fn put_bounds(state: &mut State, program: &Program) {
     copy(&mut state.lower, &program.lower);
     copy(&mut state.upper, &program.upper);
 }
 
-// Puts a column that is not basic where its reduced cost wants it.
+// Moves a column that is not basic to the bound that its reduced cost calls for.
 fn settle_by_cost(state: &mut State, k: usize) {
     let reduced = at(&state.reduced, k);
     let wanted = if reduced > 0.0 {
@@ -151,7 +151,7 @@ fn settle_by_cost(state: &mut State, k: usize) {
     state.settle(k, wanted);
 }
 
-// Puts all columns that are not basic there.
+// Moves each column that is not basic to the bound that its reduced cost calls for.
 fn settle_all(state: &mut State) {
     for k in 0..state.status.len() {
         if !state.is_basic(k) {

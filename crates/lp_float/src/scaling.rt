@@ -56,7 +56,7 @@ fn find_factors(lines: &Lines<f64>, factors: &mut [f64], others: &[f64]) {
     }
 }
 
-// Puts powers of two in place of factors.
+// Replaces each factor by a power of two near to it.
 fn round(factors: &mut [f64]) {
     for factor in factors.iter_mut() {
         *factor = power_near(*factor);
@@ -73,7 +73,7 @@ fn find_all_factors(program: &Program, rows: &mut [f64], cols: &mut [f64]) {
     round(cols);
 }
 
-// Puts the numbers of a line into lines, each times two factors.
+// Adds a line with the numbers of another one, each times `times` and the factor of its place.
 fn put_line(
     lines: &mut Lines<f64>,
     line: &[Entry<f64>],
@@ -126,7 +126,7 @@ fn scale_column(program: &mut Program, k: usize, times: f64) {
     }
 }
 
-// Scales the structural columns.
+// Multiplies each structural column by its factor.
 fn scale_structural(program: &mut Program, factors: &[f64]) {
     for (k, times) in factors.iter().enumerate() {
         scale_column(program, k, *times);
@@ -141,7 +141,7 @@ fn scale_logical(program: &mut Program, factors: &[f64]) {
     }
 }
 
-// Brings great costs down.
+// Divides all costs by a power of two where one is too great.
 fn scale_costs(program: &mut Program) {
     let most = greatest(&program.cost);
     if most > COST {
@@ -164,7 +164,7 @@ fn greatest_bound(bounds: &[f64]) -> f64 {
     most
 }
 
-// Multiplies all.
+// Multiplies all bounds of a list by a factor.
 fn multiply(bounds: &mut [f64], times: f64) {
     for bound in bounds.iter_mut() {
         *bound *= times;

@@ -23,7 +23,7 @@ pub(crate) fn add_to(list: &mut Sparse<f64>, k: usize, more: f64) -> Result<(), 
     Ok(())
 }
 
-/// Puts a number at `k`, and notes its place.
+/// Sets the number at `k`, and notes the place.
 #[inline(always)]
 pub(crate) fn put_in(list: &mut Sparse<f64>, k: usize, number: f64) -> Result<(), AllocError> {
     if at(&list.numbers, k) == 0.0 && !list.is_full() {
@@ -58,7 +58,7 @@ pub(crate) fn add_line(
     Ok(())
 }
 
-/// Copies numbers.
+/// Copies the numbers other than 0 of one list to another, which is cleared first.
 pub(crate) fn copy_to(list: &mut Sparse<f64>, from: &Sparse<f64>) -> Result<(), AllocError> {
     list.clear();
     for k in &from.places {
@@ -81,7 +81,7 @@ pub(crate) fn is_dense(list: &Sparse<f64>, part: usize) -> bool {
     count.saturating_mul(part) > list.numbers.len()
 }
 
-/// The sum of squares.
+/// The sum of the squares of all numbers of a list.
 pub(crate) fn square(list: &Sparse<f64>) -> f64 {
     let mut sum = 0.0;
     for k in &list.places {

@@ -119,7 +119,7 @@ pub(crate) fn status_at(list: &[Status], k: usize) -> Status {
     }
 }
 
-/// Puts a status at `k`, if the list is that long.
+/// Sets the status at `k`, if the list is that long.
 #[inline(always)]
 pub(crate) fn put_status(list: &mut [Status], k: usize, status: Status) {
     if let Some(place) = list.get_mut(k) {
@@ -167,7 +167,7 @@ pub(crate) fn resting(wanted: Status, lower: f64, upper: f64) -> Status {
     }
 }
 
-// Numbers at no place.
+// A list without any places for numbers.
 fn no_numbers(alloc: Global) -> Sparse<f64> {
     Sparse {
         numbers: Vec::new(alloc),
@@ -204,7 +204,7 @@ impl Room {
     }
 }
 
-// Puts so many statuses: those given, and basic ones where they end.
+// Adds `len` statuses to a list: the given ones, and basic ones behind their end.
 fn put_statuses(list: &mut Vec<Status>, len: usize, start: &[Status]) -> Result<(), AllocError> {
     for k in 0..len {
         list.push(status_at(start, k))?;
@@ -232,7 +232,7 @@ impl State {
         }
     }
 
-    // Puts the bounds, the costs and the statuses of columns.
+    // Sets the bounds, the costs and the statuses of all columns of the program.
     fn put_columns(&mut self, program: &Program, start: &[Status]) -> Result<(), AllocError> {
         self.lower.extend_from_slice(&program.lower)?;
         self.upper.extend_from_slice(&program.upper)?;
@@ -303,7 +303,7 @@ impl State {
         }
     }
 
-    /// Notes how far the value at a position is outside.
+    /// Notes the squared distance of the value at a position from its bounds, 0 within the tolerance.
     #[inline(always)]
     pub(crate) fn note_outside(&mut self, place: usize) {
         let outside = self.outside(index_at(&self.basis.head, place));
@@ -324,13 +324,13 @@ impl State {
         }
     }
 
-    /// How far apart the bounds of a column are.
+    /// The distance between the bounds of a column.
     #[inline(always)]
     pub(crate) fn range(&self, k: usize) -> f64 {
         at(&self.upper, k) - at(&self.lower, k)
     }
 
-    /// Puts a column that is not basic at a bound, at the wanted one if it has that.
+    /// Moves a column that is not basic to the wanted bound if the column has it, and else to another one or to 0.
     pub(crate) fn settle(&mut self, k: usize, wanted: Status) {
         let lower = at(&self.lower, k);
         let upper = at(&self.upper, k);
@@ -344,7 +344,7 @@ impl State {
         put(&mut self.value, k, value);
     }
 
-    /// Puts a column at the other bound.
+    /// Moves a column that is not basic to its other bound.
     pub(crate) fn turn(&mut self, k: usize) {
         match status_at(&self.status, k) {
             Status::AtUpper => self.settle(k, Status::AtLower),

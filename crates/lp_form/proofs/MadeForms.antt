@@ -34,7 +34,8 @@ column_more f xs j before after v put so_far is l =
 
 -- ---- one row more
 
--- where a list is front and then f of each item done, pushing f of one item more keeps it so
+-- where a list is a front and f of each item done, appending f of one more item gives the front and f of each item with
+-- that one
 pushed : {A B : Type 0} (f : A → B) (front : List B) (done : List A) (a : A) (all : List B) →
     all ≡ front ++ map f done → all ++ f a ∷ [] ≡ front ++ map f (done ++ a ∷ [])
 pushed f front done a all h =

@@ -3,10 +3,10 @@
 -- `code_small`: the code of each column is below 4, so it has two bits.
 -- `column_more`: where a word holds the codes from one column on, four times the word, with the code of the column
 --   before added, is the word from that column on.
--- `has_room`: before the last column is put, a word is below 2^62, so that two more bits fit.
--- `word_more`: where k words are put behind a front, setting the next one puts k + 1 behind it.
+-- `has_room`: before the last column is added to a word, the word is below 2^62, so that two more bits fit.
+-- `word_more`: where k words are written behind a front, setting the next one makes k + 1 words behind it.
 -- `copied_more`: copying the word at place i where the first i are copied makes the first i + 1 copied.
--- `all_put`: where as many words are put as the list is long, the list is those words.
+-- `all_put`: where as many words are written as the list is long, the list is those words.
 -- `whole_word`: a word that is made down to its first column is the word of all its 32 columns.
 -- `count_step`: counting column c, one more if basic, gives the number of basic columns among the first c + 1.
 -- `basics_unpacked`: the statuses of all columns of packed words have as many basic ones as the words have rows.

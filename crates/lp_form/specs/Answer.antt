@@ -8,13 +8,13 @@ use Rattle.lp_frac.specs.declared.stop.Stop.{Stop}
 use Rattle.lp_form.specs.declared.fault.Clash.{Clash}
 use Rattle.lp_frac.specs.declared.stop.Stop.TheVariants.{Cause, Past, NoMemory}
 
--- this stop is why there is no form, or memory ran out
+-- the run gives no form, for the reason of this stop; or memory ran out
 abbrev pub IsFaultOf : {A : Type 0} → Result A (FormFault ℚ) → Stop Clash → Type 0
 IsFaultOf run (Cause clash) = run ≡ Err (fault.Clash clash.column)
 IsFaultOf run (Past p) = run ≡ Err (fault.Past p)
 IsFaultOf run NoMemory = ⊤
 
--- this stop is the refusal, or memory ran out
+-- the run is refused by the operation of this stop; or memory ran out
 abbrev pub IsStopOf : {A : Type 0} → Run A → Stop Clash → Type 0
 IsStopOf run (Cause clash) = ⊥
 IsStopOf run (Past p) = run ≡ Err p

@@ -110,12 +110,12 @@ fn found_at(
     }))
 }
 
-// 1 or its opposite.
+// The fraction 1, or -1 where it is not positive.
 fn unit(is_positive: bool) -> Frac {
     if is_positive { one() } else { neg(one()) }
 }
 
-// Numbers of all columns: this one has 1 or its opposite, and the others 0.
+// Numbers of all columns: 1 or -1 for column `k`, and 0 for each other one.
 fn units(alloc: Global, len: usize, k: usize, is_positive: bool) -> Result<Vec<Frac>, AllocError> {
     let mut list = Vec::from_elem(alloc, zero(), len)?;
     if let Some(number) = list.get_mut(k) {
@@ -238,7 +238,7 @@ fn dual_step(
     }
 }
 
-// How far a column may go between its bounds.
+// The distance between the bounds of a column, infinite where one is absent.
 fn range(program: &Program<'_>, k: usize) -> f64 {
     match (program.lower(k), program.upper(k)) {
         (Some(lower), Some(upper)) => near_fraction(upper) - near_fraction(lower),
@@ -288,7 +288,7 @@ fn primal_step(
     }
 }
 
-// Puts the costs of the program back.
+// Sets the run's costs to those of the program again.
 fn restore(alloc: Global, program: &Program<'_>, run: &mut Run) -> Result<(), AllocError> {
     run.costs = Vec::from_slice(alloc, &program.costs)?;
     run.are_shifted = false;

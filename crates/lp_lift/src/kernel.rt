@@ -43,7 +43,8 @@ pub(crate) fn place_at(places: &[Option<usize>], k: usize) -> Option<usize> {
     }
 }
 
-// Those of so many columns from `first` on that are basic, or that are not, and the position of each.
+// Of `len` columns from `first` on, those that are basic, or those that are not; and for each of the columns its place
+// among these, if it has one.
 fn chosen(
     alloc: Global,
     statuses: &[Status],
@@ -112,7 +113,7 @@ impl Drop for WholeKernel {
     }
 }
 
-// The low digit of a number, on both sides of 0, and what is above it.
+// The lowest digit of a number by the prime, which may be negative, and the quotient above it.
 fn low_digit(n: i128) -> (i64, i128) {
     let prime = i128::from(PRIME);
     let half = prime / 2;
@@ -121,7 +122,7 @@ fn low_digit(n: i128) -> (i64, i128) {
     (i64::try_from(rest).unwrap_or(0), above)
 }
 
-// Puts a number into both levels. Whether it fits them.
+// Adds the lowest digit of a number to one matrix and the next one to another. Says whether these two digits are all.
 fn put_number(
     low: &mut Lines<i64>,
     high: &mut Lines<i64>,
@@ -142,7 +143,7 @@ fn put_number(
     }
 }
 
-// Puts the numbers of a column into both levels. Whether they fit.
+// Adds the digits of a column's numbers to both matrices. Says whether two digits suffice.
 fn put_column(
     low: &mut Lines<i64>,
     high: &mut Lines<i64>,
@@ -230,7 +231,7 @@ fn are_short(levels: &[Lines<i64>]) -> bool {
     levels.len() <= 2 && levels.iter().all(|level| most_bits(level) <= MOST_BITS)
 }
 
-// The levels by row.
+// The matrices of all digits, by rows instead of columns.
 fn turned_levels(
     alloc: Global,
     levels: &[Lines<i64>],
@@ -262,7 +263,8 @@ pub(crate) fn whole_from(
     })
 }
 
-// A kernel with whole numbers, if scales are within 127 bits, and numbers take no more than two digits or so.
+// The kernel in whole numbers of about two digits; none where the numbers or the scales of the rows are too large for
+// that.
 fn short_whole(
     alloc: Global,
     program: &Program<'_>,
@@ -305,7 +307,7 @@ fn matrix_of(
     Ok(matrix)
 }
 
-// Puts a column.
+// Adds column `k`, modulo the prime, to the matrix.
 fn put_residues(
     matrix: &mut Matrix<Residue>,
     low: &Lines<i64>,

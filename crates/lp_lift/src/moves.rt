@@ -44,7 +44,7 @@ pub(crate) fn float_at(list: &[f64], k: usize) -> f64 {
     }
 }
 
-// Whether a reduced cost asks for a column to move from where it stands.
+// Whether a reduced cost has a sign by which a column that is not basic should move from its bound.
 fn is_wrong(program: &Program<'_>, statuses: &[Status], k: usize, reduced: f64) -> bool {
     if is_fixed(program.lower(k), program.upper(k)) {
         return false;
@@ -72,7 +72,7 @@ fn flip(statuses: &mut [Status], k: usize) {
     put_status(statuses, k, other);
 }
 
-/// Flips each column with two bounds whose reduced cost asks for it. Whether there was one.
+/// Flips each column with two bounds whose reduced cost has the wrong sign. Says whether there was one.
 pub(crate) fn flip_wrong(program: &Program<'_>, statuses: &mut [Status], reduced: &[f64]) -> bool {
     let mut is_any = false;
     for (k, cost) in reduced.iter().enumerate() {
@@ -84,7 +84,7 @@ pub(crate) fn flip_wrong(program: &Program<'_>, statuses: &mut [Status], reduced
     is_any
 }
 
-/// The column that is not basic whose reduced cost asks most for a move.
+/// The nonbasic column whose reduced cost of the wrong sign has the greatest absolute value.
 pub(crate) fn most_wrong(
     program: &Program<'_>,
     statuses: &[Status],
@@ -104,7 +104,7 @@ pub(crate) fn most_wrong(
     found
 }
 
-/// The move that the reduced cost of a column asks for, if it does.
+/// The way in which a column should move by its reduced cost; none where its sign is right.
 pub(crate) fn entering_at(
     program: &Program<'_>,
     statuses: &[Status],
@@ -209,7 +209,7 @@ pub(crate) fn blocked(range: f64, rooms: &[Room], rates: &[f64]) -> Option<Block
     found
 }
 
-// The room at `k`.
+// The distances of column `k` from its bounds; without bounds where the list is shorter.
 fn room_at(rooms: &[Room], k: usize) -> Room {
     match rooms.get(k) {
         Some(room) => *room,

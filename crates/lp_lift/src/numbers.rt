@@ -32,7 +32,8 @@ fn solved_number(
     }
 }
 
-/// So many numbers: those of a solution, each at its place, or their opposites, and the others where there is no place.
+/// A list of `len` numbers: that of the solution where there is a place, negated where `is_opposite`, and else that of
+/// `others`.
 pub(crate) fn numbers(
     alloc: Global,
     len: u32,
@@ -54,7 +55,7 @@ pub(crate) fn numbers(
     Ok(list)
 }
 
-/// So many numbers: 0 where there is a place, and else the others.
+/// A list of `len` numbers: 0 where there is a place in the solution, and else that of `others`.
 pub(crate) fn other_numbers(
     alloc: Global,
     len: u32,

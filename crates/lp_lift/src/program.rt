@@ -74,7 +74,7 @@ fn bound_at(bounds: &[Option<Frac>], k: usize) -> Option<Frac> {
     }
 }
 
-// Puts the bounds and the costs of all columns.
+// Adds the bounds and the costs of all structural columns to the lists.
 fn put_columns(
     model: &Model,
     lowers: &mut Vec<Option<Frac>>,
@@ -90,7 +90,7 @@ fn put_columns(
     Ok(())
 }
 
-// Puts the limits of all rows behind the bounds of the columns. Whether all are within the limit on numbers.
+// Adds the limits of all rows to the lists of bounds. Says whether all are within the limit on numbers.
 fn put_rows(
     model: &Model,
     lowers: &mut Vec<Option<Frac>>,

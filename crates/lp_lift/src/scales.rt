@@ -16,7 +16,7 @@ pub(crate) enum Scales {
 }
 
 impl Scales {
-    /// The numbers of one width, if they are that.
+    /// The scales of all rows where they are numbers of 128 bits; none where they are wider.
     pub(crate) fn short(&self) -> Option<&[i128]> {
         match self {
             Scales::Short(scales) => Some(scales),
@@ -156,7 +156,7 @@ pub(crate) fn row_scales(
     Ok(Some(scales))
 }
 
-// The least common denominator.
+// The least common denominator of fractions; none where it overflows.
 pub(crate) fn common_denominator(fractions: &[Frac]) -> Option<i128> {
     let mut scale = 1i128;
     for v in fractions {

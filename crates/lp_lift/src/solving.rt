@@ -8,7 +8,7 @@ use lp_sparse::wide::{Words, product, times_wide};
 use lp_sparse::{Solved, System, Whole, lifted_solution};
 use std::alloc::{AllocError, Global};
 
-// A solution whose denominator is so many times as large.
+// The solution divided by a number: its denominator times `by`.
 fn over(alloc: Global, solved: Solved, by: &[u64]) -> Result<Solved, AllocError> {
     if let [1] = by {
         return Ok(solved);
@@ -65,7 +65,7 @@ fn scaled(alloc: Global, scales: &Scales, i: usize, number: &Whole) -> Result<Wh
     })
 }
 
-// Puts each number times the scale of its row.
+// Adds to a list each number times the scale of its row.
 fn put_times_scales(
     alloc: Global,
     prepared: &Prepared,

@@ -50,7 +50,7 @@ fn room_of(
 
 // ---- sums of rows
 
-// So many sums, each of nothing: one for each row, for products to be added to.
+// A list of `len` sums, one for each row, to which no product was added yet.
 fn no_sums(alloc: Global, len: usize) -> Result<Vec<Sum>, AllocError> {
     let mut list = Vec::with_capacity(alloc, len)?;
     for _ in 0..len {
@@ -152,7 +152,7 @@ fn numbers_of(alloc: Global, sums: Vec<Sum>) -> Result<Vec<Whole>, AllocError> {
 
 // ---- the rooms
 
-/// Puts the rooms of the basic structural columns.
+/// Sets the distances of the basic structural columns from their bounds.
 pub(crate) fn put_rooms(
     alloc: Global,
     program: &Program<'_>,
@@ -170,7 +170,7 @@ pub(crate) fn put_rooms(
     Ok(())
 }
 
-// Puts the rooms of the basic logical columns.
+// Sets the distances of the basic logical columns from their bounds.
 fn put_row_rooms(
     alloc: Global,
     program: &Program<'_>,
@@ -197,8 +197,8 @@ fn put_row_rooms(
     Ok(())
 }
 
-/// The room of each column, by what the basic structural ones have, and where the others stand. There are none where a
-/// number is past the limits.
+/// The distances of each column from its bounds, by the solution and by the values of the nonbasic columns; none where
+/// a number is past the limits.
 pub(crate) fn short_rooms(
     alloc: Global,
     program: &Program<'_>,
@@ -319,7 +319,7 @@ fn reduced_at(
     }
 }
 
-// Puts the reduced costs of all columns. Whether all are within the limits.
+// Adds the reduced costs of all columns to a list. Says whether all are within the limits.
 fn put_reduced(
     alloc: Global,
     program: &Program<'_>,
@@ -360,7 +360,7 @@ pub(crate) fn short_reduced(
 
 // ---- rates
 
-/// Puts the rates of the basic structural columns.
+/// Sets the rates at which the basic structural columns move.
 pub(crate) fn put_rates(kernel: &Kernel, solved: &Solved, rates: &mut [f64]) {
     for (j, number) in kernel.columns.iter().zip(&solved.numerators) {
         if let Some(rate) = rates.get_mut(*j) {
@@ -369,7 +369,7 @@ pub(crate) fn put_rates(kernel: &Kernel, solved: &Solved, rates: &mut [f64]) {
     }
 }
 
-// Puts the rates of the basic logical columns.
+// Sets the rates at which the basic logical columns move.
 fn put_row_rates(
     alloc: Global,
     program: &Program<'_>,
@@ -389,8 +389,8 @@ fn put_row_rates(
     Ok(())
 }
 
-/// The rates at which the basic columns move, 0 of the others, where those that are not basic move so. There are none where
-/// a number is past the limits.
+/// The rates at which the basic columns move where the nonbasic ones move by `moves`, and 0 for each nonbasic one; none
+/// where a number is past the limits.
 pub(crate) fn short_rates(
     alloc: Global,
     program: &Program<'_>,

@@ -12,7 +12,7 @@ pub(crate) fn status_at(statuses: &[Status], k: usize) -> Status {
     }
 }
 
-/// Puts a status.
+/// Sets the status of column `k`, if the list is that long.
 pub(crate) fn put_status(statuses: &mut [Status], k: usize, status: Status) {
     if let Some(place) = statuses.get_mut(k) {
         *place = status;
@@ -70,7 +70,7 @@ pub(crate) fn standing(status: Status, lower: Option<Frac>, upper: Option<Frac>)
     }
 }
 
-/// Where each column stands that is not basic; 0 for the others.
+/// The values at which the nonbasic columns are; 0 for each basic one.
 pub(crate) fn standings(
     alloc: Global,
     program: &Program<'_>,

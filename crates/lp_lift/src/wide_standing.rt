@@ -70,7 +70,7 @@ fn room_of(
     })
 }
 
-// Puts the rooms of the basic logical columns, whose rows have these sums.
+// Sets the distances of the basic logical columns from their bounds, given the sums of their rows.
 fn put_row_rooms(
     alloc: Global,
     program: &Program<'_>,
@@ -102,7 +102,7 @@ fn long_rooms(
     Ok(rooms)
 }
 
-/// The room of each column, by what the basic structural ones have, and where the others stand.
+/// The distances of each column from its bounds, by the solution and by the values of the nonbasic columns.
 pub(crate) fn rooms(
     alloc: Global,
     program: &Program<'_>,
@@ -121,7 +121,7 @@ pub(crate) fn rooms(
 
 // ---- rates
 
-// Puts the rates of the basic logical columns, whose rows have these sums.
+// Sets the rates at which the basic logical columns move, given the sums of their rows.
 fn put_row_rates(
     alloc: Global,
     program: &Program<'_>,
@@ -138,8 +138,8 @@ fn put_row_rates(
     Ok(())
 }
 
-// The rates at which the basic columns move, 0 of the others, where those that are not basic move so: by sums of any
-// width.
+// The rates at which the basic columns move where the nonbasic ones move by `moves`, by sums of any width; 0 for each
+// nonbasic one.
 fn long_rates(
     alloc: Global,
     program: &Program<'_>,
@@ -154,7 +154,7 @@ fn long_rates(
     Ok(rates)
 }
 
-/// The rates at which the basic columns move, 0 of the others, where those that are not basic move so.
+/// The rates at which the basic columns move where the nonbasic ones move by `moves`; 0 for each nonbasic one.
 pub(crate) fn rates_of(
     alloc: Global,
     program: &Program<'_>,
@@ -173,7 +173,7 @@ pub(crate) fn rates_of(
 
 // ---- reduced costs
 
-// Puts the reduced costs of the structural columns.
+// Sets the reduced costs of the nonbasic structural columns.
 fn put_structurals(
     alloc: Global,
     program: &Program<'_>,
@@ -190,7 +190,7 @@ fn put_structurals(
     Ok(())
 }
 
-// Puts the reduced costs of the logical columns: the cost of each, and the multiplier of its row.
+// Sets the reduced costs of the nonbasic logical columns: the cost of each, and the multiplier of its row.
 fn put_logicals(
     alloc: Global,
     program: &Program<'_>,

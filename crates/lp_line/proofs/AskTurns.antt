@@ -34,14 +34,14 @@ Asks = List (Asked ExactAsk)
 
 -- ---- a line completes one ask at most, which leaves nothing begun
 
--- a list of one ask that equals a list with a first ask has none behind it
+-- a list of one request that equals a list with a first request has none behind it
 one_alone : (a b : Asked ExactAsk) (rest : Asks) → ◌≡◌ {A = Asks} (a ∷ []) (b ∷ rest) → rest ≡ []
 one_alone a b rest e = sym (tail e)
   where
     tail : ◌≡◌ {A = Asks} (a ∷ []) (b ∷ rest) → ◌≡◌ {A = Asks} [] rest
     tail e = cc
 
--- an empty list of asks equals no list with a first ask
+-- an empty list of requests equals no list with a first request
 none_some : {P : Type 0} (b : Asked ExactAsk) (rest : Asks) → ◌≡◌ {A = Asks} [] (b ∷ rest) → P
 none_some {P} b rest e = absurd (differ e)
   where
@@ -52,7 +52,7 @@ record IsDone (rest : Asks) (after : Pending) : Type 0 where
   alone : rest ≡ []
   between : after ≡ Between
 
--- a command's line that completes an ask completes no other, and leaves the script between commands
+-- a command's line that completes a request completes no other, and leaves the script between commands
 command_done : (session : ℕ) (c : ExactCommand) (asked : Asked ExactAsk) (rest : Asks) →
     asks_of_command session c ≡ asked ∷ rest → IsDone rest (begun session c)
 command_done session (command.Load form) asked rest e = none_some asked rest e
@@ -60,19 +60,19 @@ command_done session command.Check asked rest e = none_some asked rest e
 command_done session (command.Plain plain) asked rest e = record { alone = one_alone _ asked rest e; between = refl }
 command_done session (command.Bad fault) asked rest e = record { alone = one_alone _ asked rest e; between = refl }
 
--- an addressed line that completes an ask completes no other, and leaves the script between commands
+-- an addressed line that completes a request completes no other, and leaves the script between commands
 addressed_done : (found : Option (Asked ExactCommand)) (asked : Asked ExactAsk) (rest : Asks) →
     asks_by found ≡ asked ∷ rest → IsDone rest (begun_by found)
 addressed_done None asked rest e = none_some asked rest e
 addressed_done (Some addressed) asked rest e = command_done addressed.session addressed.ask asked rest e
 
--- a line of a body that completes an ask completes no other, and leaves the script between commands
+-- a line of a body that completes a request completes no other, and leaves the script between commands
 body_done : (ends : Bool) (completed asked : Asked ExactAsk) (rest : Asks) (more : Pending) →
     ◌≡◌ {A = Asks} (cond ends (completed ∷ []) []) (asked ∷ rest) → IsDone rest (cond ends Between more)
 body_done true completed asked rest more e = record { alone = one_alone completed asked rest e; between = refl }
 body_done false completed asked rest more e = none_some asked rest e
 
--- a line that completes an ask completes no other, and leaves the script between commands
+-- a line that completes a request completes no other, and leaves the script between commands
 line_done : (addressing : Addressing) (pending : Pending) (next : Line (List ℕ)) (asked : Asked ExactAsk)
     (rest : Asks) →
     asks_of_line addressing pending next ≡ asked ∷ rest → IsDone rest (pending_after_line addressing pending next)
@@ -100,7 +100,7 @@ record SayNothing (addressing : Addressing) (pending : Pending) (lines : List (L
       said_by (script_step addressing) pending (lines ++ more) ≡
       said_by (script_step addressing) (pending_after addressing pending lines) more
 
--- given lines of which nothing is said complete no ask, and lines behind them say what they say there
+-- given lines of which nothing is said complete no request, and lines behind them say what they say there
 silent_lines : (addressing : Addressing) (pending : Pending) (lines : List (Line (List ℕ))) → AreGiven lines →
     said_by (script_step addressing) pending lines ≡ None → SayNothing addressing pending lines
 silent_lines addressing pending [] given e = record { no_asks = refl; behind = λ more. refl }
@@ -134,7 +134,7 @@ record SaysAsk (addressing : Addressing) (pending : Pending) (here : Line (List 
   asks : asks_of_line addressing pending here ≡ asked ∷ []
   between : pending_after_line addressing pending here ≡ Between
 
--- where a line other than the end says something, it says the one ask that it completes
+-- where a line other than the end says something, it says the one request that it completes
 says_ask : (addressing : Addressing) (pending : Pending) (here : Line (List ℕ)) (what : NextAsk) → here ≢ line.End →
     said_by (script_step addressing) pending (here ∷ []) ≡ Some what → SaysAsk addressing pending here what
 says_ask addressing pending here what no_end e = by (asks_of_line addressing pending here) refl

@@ -2,11 +2,11 @@
 --
 -- `behind_step`: what lines say of a script is what the first line asks, or else what the others say of the next state.
 -- `skips`: a line between two commands that is no command leaves the script between them.
--- `commands`: a command's line completes its ask, or begins its body.
+-- `commands`: a command's line completes its request, or begins its body.
 -- `text_goes_on`: a line of a model's text that is not its last one leads on in the text.
--- `text_ends`: the last line of a model's text completes the ask with what the text says.
+-- `text_ends`: the last line of a model's text completes the request with what the text says.
 -- `certificate_goes_on`: a line of a certificate that is not its last one leads on in the certificate.
--- `certificate_ends`: the last line of a certificate completes the ask with what its text says.
+-- `certificate_ends`: the last line of a certificate completes the request with what its text says.
 -- `ends_so`: the end of the input ends a script between two commands, and cuts one in a body off.
 -- `leads_as`: a step equal to one to which a line leads is one to which the line leads.
 use Rattle.std.proofs.Common.{◌≡◌, ◌≢◌, ℕ, ◌+◌, ◌≤◌, List, [], ◌∷◌, ◌++◌, Option, Some, None, Ok, Err, Bool, true}
@@ -144,7 +144,7 @@ certificate_closes lines held what fits h =
 
 -- ---- steps
 
--- a line other than the end steps a script to what the asks say that it completes, or to the state behind it
+-- a line other than the end steps a script to what the requests say that it completes, or to the state behind it
 step_given : (addressing : Addressing) (pending : Pending) (here : Line (List ℕ)) → here ≢ line.End →
     script_step addressing pending here ≡
     behind_asks (asks_of_line addressing pending here) (pending_after_line addressing pending here)
@@ -172,7 +172,7 @@ record GoesTo (from : ScriptStage) (here : Line (List ℕ)) (next : ScriptStage)
   fits : (addressing : Addressing) (pending : Pending) → Fits addressing pending from →
       Fits addressing (pending_after_line addressing pending here) next
 
--- a line that completes no ask and fits the next stage leads a script on to that stage
+-- a line that completes no request and fits the next stage leads a script on to that stage
 leads_on : (from next : ScriptStage) (here : Line (List ℕ)) → here ≢ line.End → GoesTo from here next →
     lines_in next ≤ lines_in from + 1 →
     LeadsOn ScriptSays lines_in from here next
@@ -184,7 +184,8 @@ leads_on from next here no_end g few = record {
   no_end = no_end;
 }
 
--- Where a line makes just one ask in each script that fits a stage, it leads from the stage to a step that says the ask.
+-- Where a line makes just one request in each script that fits a stage, it leads from the stage to a step that says the
+-- request.
 leads_to_ask : (from : ScriptStage) (here : Line (List ℕ)) (asked : Asked ExactAsk) (what : NextAsk) → here ≢ line.End →
     ((addressing : Addressing) (pending : Pending) → Fits addressing pending from →
     asks_of_line addressing pending here ≡ asked ∷ []) →

@@ -38,12 +38,12 @@ taken_at Ended = Ok None
 taken_at Cut = Err halts.Cut
 taken_at Over = Err halts.Over
 
--- after the asks of a line
+-- after the requests of a line
 abbrev pub behind_asks : List (Asked ExactAsk) → Pending → Step Pending NextAsk
 behind_asks [] next = On next
 behind_asks (asked ∷ more) next = Says (Ok (Some asked))
 
--- where a line leads: an ask that it completes, or the next state of the script, or the script's end
+-- where a line leads: a request that it completes, or the next state of the script, or the script's end
 unfoldable pub script_step : Addressing → Pending → Line (List ℕ) → Step Pending NextAsk
 script_step addressing pending (line.Text bytes) =
     behind_asks (asks_of_line addressing pending (line.Text bytes))
@@ -102,11 +102,11 @@ pub record BeginsBody (session : ℕ) (command : ExactCommand) (next : ScriptSta
   pub fits : (addressing : Addressing) → Fits addressing (begun session command) next
   pub counts : lines_in next ≤ 1
 
--- the command's ask is complete
+-- the command's request is complete
 abbrev pub Asks : List (Asked ExactAsk) → NextAsk → Type 0
 Asks asks what = (asked : Asked ExactAsk) × (what ≡ Ok (Some asked)) × (asks ≡ asked ∷ [])
 
--- what a command leads to: a body, or its ask
+-- what a command leads to: a body, or its request
 abbrev pub Begins : ℕ → ExactCommand → code.Step ScriptStage NextAsk → Type 0
 Begins session command (step.On next) = BeginsBody session command next
 Begins session command (step.Says what) = Asks (asks_of_command session command) what

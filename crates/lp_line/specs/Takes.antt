@@ -42,7 +42,7 @@ pub record TakesEnd (addressing : Addressing) (before after : Option (List ℕ))
   pub none : TakesNone addressing before after old (Ok line.End)
   pub ends : ending_by (pending_after addressing Between none.passed) ≡ ending
 
--- what the reading of the next ask answers: the ask, or that the input ended before one, or what halts the reading
+-- what the reading of the next ask answers: the request, or that the input ended before one, or what halts the reading
 abbrev pub TakesNext : Addressing → Option (List ℕ) → Option (List ℕ) → LinesState → LinesState →
     NextAsk → Type 0
 TakesNext addressing before after old new (Ok (Some asked)) = TakesAsk addressing before after old new asked
@@ -53,7 +53,7 @@ TakesNext addressing before after old new (Err halts.Read) = TakesNone addressin
 TakesNext addressing before after old new (Err halts.NoMemory) = TakesPart before after old new
 TakesNext addressing before after old new (Err halts.Write) = ⊥
 
--- an ask takes a byte at least
+-- a request takes a byte at least
 abbrev pub TakesMore : LinesState → LinesState → NextAsk → Type 0
 TakesMore old new (Ok (Some asked)) = (old.given < new.given) × (new.given ≤ 2 ^ 26)
 TakesMore old new (Ok None) = Unit {0}

@@ -89,7 +89,7 @@ fn line_in(alloc: Global, stage: ScriptStage, line: &Line) -> Result<ScriptStep,
     }
 }
 
-// What a command leads to: an ask that is complete, or a body that begins.
+// What a command leads to: a request that is complete, or a body that begins.
 fn begin(alloc: Global, addressed: spec_server::Asked<Command>) -> ScriptStep
     ensures { Begins addressed.session addressed.ask result }
 {
@@ -130,7 +130,7 @@ fn line_between(
     }
 }
 
-// The ask that what a model's text says completes.
+// The request that what a model's text says completes.
 fn ask_of_text(said: TextSaid) -> Ask
     ensures { (verdict : Verdict) → verdict_said verdict ≡ said → ask_of_verdict verdict ≡ result }
 {
@@ -140,7 +140,7 @@ fn ask_of_text(said: TextSaid) -> Ask
     }
 }
 
-// The ask that what a certificate's text says completes.
+// The request that what a certificate's text says completes.
 fn ask_of_certificate(said: CertificateSaid) -> Ask
     ensures { (judgement : Judgement) → judgement_said judgement ≡ said → ask_of_judgement judgement ≡ result }
 {

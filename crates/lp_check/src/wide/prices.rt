@@ -82,8 +82,8 @@ fn all_reduced(
     Ok(Items::from_vec(out))
 }
 
-/// The reduced costs of all columns, by one walk over the entries of the model: what is left of each cost, which is to be
-/// made least, without the multipliers' part.
+/// The reduced costs of all columns, by one walk over the entries of the model: each cost, as one to be minimized, less
+/// the multipliers' part.
 pub fn reduced_costs(alloc: Global, model: &Model, y: &Ratios) -> Result<Ratios, AllocError>
     requires { length y.now ≡ height model.now }
     ensures len { IfOk result (λ r. length r ≡ width model.now) }
