@@ -10,7 +10,7 @@ use Rattle.spec_factor.specs.Factors.{Pair, forward_run, ftran_run, backward_run
 
 -- ---- ftran
 
--- where ftran by some pairs gives w, ftran by these and others is ftran of w by the others
+-- where ftran by a first list of pairs gives w, ftran by this list and a second one is ftran of w by the second one
 ftran-append : (m : ℕ) (es fs : List Pair) (v w : List ℚ) → ftran_run (Some number_limit) m es v ≡ Ok w →
     ftran_run (Some number_limit) m (es ++ fs) v ≡ ftran_run (Some number_limit) m fs w
 ftran-append m [] fs v w h = let e : v ≡ w = cc in ap (ftran_run (Some number_limit) m fs) e

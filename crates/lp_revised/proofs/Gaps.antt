@@ -2,17 +2,20 @@
 -- between two entries nothing changes.
 --
 -- `bound`: where entry c exists it is that entry's place, and past the last entry it is the end m.
--- `less_zero_left`: a narrow number less 0 times a narrow number is that number, and nothing is refused.
--- `less_zero_right`: a narrow number less a narrow number times 0 is that number, and nothing is refused.
--- `entry_there`: in entries of ascending places, what is read at the place of entry c is the value of entry c.
--- `entry_narrow`: where all values of entries are narrow, the number that is read at any place is narrow.
+-- `less_zero_left`: a number of at most 127 bits less 0 times a number of at most 127 bits is that number, and nothing
+--   is refused.
+-- `less_zero_right`: a number of at most 127 bits less a number of at most 127 bits times 0 is that number, and nothing
+--   is refused.
+-- `entry_there`: in entries of ascending places, the number at the place of entry c is the value of entry c.
+-- `entry_narrow`: where all values of entries have at most 127 bits, the number that is read at any place has at most
+--   127 bits.
 -- `none_done`: before the first step the list is the one at the start.
 -- `one_done`: where f gives x at place b, setting place b to x carries the run on to b + 1.
 -- `still`: where f gives the items at the start for the n places from b, the list stays and the run is done to b + n.
 -- `still_to`: where f gives the items at the start from b up to c, the list stays and the run is done to c.
 -- `whole_done`: a run that is done to the length of the list gives that list.
 -- `steps_to`: where the steps from b up to c leave the state as it is, all c steps end as the first b do.
--- `read_narrow`: a narrow item behind i narrow items makes the first i + 1 items narrow.
+-- `read_narrow`: where the first i items have at most 127 bits, and so has item i, the first i + 1 items have.
 use Rattle.std.proofs.Common.{◌≡◌, ◌≢◌, ℕ, zero, suc, ◌+◌, ◌-◌, ◌<◌, ◌≤◌, List, [], ◌∷◌, length, take}
 use Rattle.std.proofs.Common.{get_or, set, slice_get, All, Some, Ok, Bool, true, false, cond, nat_eq, nat_lt}
 use Rattle.std.proofs.Common.{refl, sym, ap, ◌∙◌, subst, arith, eq-eqb, ne_eqb, lt-ltb, le-ltb}
@@ -52,7 +55,7 @@ bound m es c = cond (nat_lt c (length es)) (row_at es c) m
 
 -- ---- where an operand is 0
 
--- a narrow number is within the limit of numbers
+-- a number of at most 127 bits is within the limit of numbers
 within : (v : ℚ) → IsNarrow v → IsWithin number_limit v
 within v n = record { num_fits = n.top; den_fits = n.bottom }
 

@@ -1,8 +1,8 @@
 -- The items of a list that are not 0, gathered in order as the entries of a pair.
 --
 -- `skip_item`: where item n is 0, the entries of the first n items are those of the first n + 1.
--- `push_item`: where item n is narrow and not 0, pushing it gives the entries of the first n + 1 items.
--- `pair_is`: the pair of the entries of a whole list is the pair of that list.
+-- `push_item`: where item n has at most 127 bits and is not 0, pushing it gives the entries of the first n + 1 items.
+-- `pair_is`: the eta pair of the entries of a list is the eta pair of the list itself.
 use Rattle.std.proofs.Common.{◌≡◌, ◌≢◌, ℕ, ◌+◌, ◌<◌, List, [], ◌∷◌, ◌++◌, length, get_or, slice_get}
 use Rattle.std.proofs.Common.{All, Some, cond, nat_eq, refl, sym, ap, ◌∙◌, subst, arith, eq-eqb, ne_eqb}
 use Rattle.std.proofs.lemmas.List.{ext_get_or}

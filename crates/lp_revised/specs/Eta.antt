@@ -10,7 +10,7 @@ use Rattle.spec_model.specs.Kept.{AreEntries, row_limit}
 use Rattle.spec_exact.specs.Run.{made}
 use Rattle.spec_factor.specs.Factors.{Pair, Factors}
 
--- the pair of a place and of the list of `rows` items that has these entries, and 0 elsewhere
+-- the eta pair of a place and a column of `rows` items, which has these entries and is 0 elsewhere
 abbrev pub pair_of : ℕ → ℕ → List (ℕ × ℚ) → Pair
 pair_of rows place entries = record { place = place; column = made rows (λ i. entry_of entries i) }
 
@@ -24,7 +24,7 @@ pub record IsEta (rows place : ℕ) (pivot : ℚ) (items : List (ℕ × ℚ)) : 
   pub not_zero : pivot ≢ 0ℚ
   pub narrow : All (λ e. IsNarrow e.1) items
 
--- a code of pairs
+-- how an eta pair is stored: its place and its column
 abbrev pub pair_code : Coded Pair
 pair_code =
     code_by (ℕ × List ℚ) (coded× coded_ℕ (coded_list fraction_code)) (λ e. (e.place, e.column))

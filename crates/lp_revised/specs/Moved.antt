@@ -10,7 +10,7 @@ use Rattle.spec_simplex.specs.Step.{is_place, shifted_run, exchanged, turned}
 use Rattle.spec_factor.specs.Factors.{with_pair}
 use Rattle.spec_factor.specs.Revised.{Revised, seen_entry}
 
--- the same state but for its values
+-- two states of the revised simplex are the same but for the values of the columns
 abbrev pub WithValues : Revised → Revised → Type 0
 WithValues s u = u ≡ record s { bare = record s.bare { value = u.bare.value } }
 
@@ -39,6 +39,6 @@ exchanged_by starts s z p j theta to =
       replaced = suc s.replaced;
     })
 
--- the same state with other bounds
+-- a state of the revised simplex with these lower and upper bounds in place of its own
 abbrev pub fixed_at : Revised → List (Option ℚ) → List (Option ℚ) → Revised
 fixed_at s lower upper = record s { bare = record s.bare { lower = lower; upper = upper } }

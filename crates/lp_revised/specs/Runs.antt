@@ -66,7 +66,7 @@ RunsFirst answer starts s (Err e) = StopsRevised answer e
 abbrev pub over_end : RunEnd → OverEnd
 over_end e = record { certificate = e.certificate; basis = e.basis; pivots = e.pivots }
 
--- both phases end so, or stop so, or memory was wanting
+-- phase one and two over factors end with this end, or stop for this reason, or memory ran out
 abbrev pub EndsOver : Result OverEnd (RunStop ℚ) → Result RunEnd (Stop Spent) → Type 0
 EndsOver answer (Ok e) = answer ≡ Ok (over_end e)
 EndsOver answer (Err e) = StopsRevised answer e
@@ -81,7 +81,7 @@ abbrev pub after_one_run : ℕ → Form → List (RowStart ℚ) → RevisedEnded
 after_one_run budget f starts one =
     if is_stuck one.state.bare then Ok (stuck_answer one) else over_two (Some number_limit) budget f starts one
 
--- both phases from the state t, with the first factors of its basic columns
+-- phase one and two over factors from the tableau t, for whose basic columns the first factors are made
 abbrev pub begun_run : ℕ → Form → List (RowStart ℚ) → Tableau → Result OverEnd (RunStop ℚ)
 begun_run budget f starts t = refactor_run (Some number_limit) f t >>= λ s. over_phases (Some number_limit) budget f
     starts s

@@ -7,7 +7,7 @@ use Rattle.spec_simplex.specs.Tableau.{all_columns}
 use Rattle.spec_factor.specs.Factors.{Pair}
 use Rattle.spec_factor.specs.Revised.{Revised, replacements}
 
--- the state of these parts, which keeps neither rows nor reduced costs
+-- the state of the revised simplex with these parts; it keeps no rows of a tableau and no reduced costs
 abbrev pub state_of : ℕ → ℕ → List ℕ → List ℚ → List Status → List (Option ℚ) → List (Option ℚ) → List Pair → ℕ →
     Revised
 state_of rows cols basic value status lower upper pairs replaced =

@@ -34,7 +34,7 @@ impl Model for Chosen {
     ghost invariant = { λ s. AreChosen (record { pairs = s.etas.items; columns = s.columns.items }) };
 }
 
-// Puts the negatives of structural column `k`'s coefficients in their rows of `column`, which is 0 everywhere.
+// Writes the negatives of structural column `k`'s coefficients into their rows of `column`, which is 0 everywhere.
 fn put_negatives(form: &Form, k: u32, column: &mut Fracs)
     requires structural { k < form.now.cols }
     requires zeros { column.old ≡ replicate form.now.rows 0ℚ }
@@ -45,7 +45,8 @@ fn put_negatives(form: &Form, k: u32, column: &mut Fracs)
     }
 }
 
-// Puts 1 in the row of logical column `k` of `column`, which is 0 everywhere. Behind the logicals nothing is put.
+// Writes 1 into the row of logical column `k` of `column`, which is 0 everywhere. For a column behind the logical ones
+// nothing is written.
 fn put_one(form: &Form, k: u32, column: &mut Fracs)
     requires not_structural { form.now.cols ≤ k }
     requires zeros { column.old ≡ replicate form.now.rows 0ℚ }
@@ -111,7 +112,7 @@ impl Chosen {
         })
     }
 
-    // Puts column `k`, which is `v` by places, in a place, and adds its pair.
+    // Gives column `k`, which is `v` by places, a place, and adds the eta pair of both.
     fn put(&mut self, alloc: Global, place: u32, k: u32, v: &Fracs) -> Result<(), AllocError>
         requires inside { place < length self.old.columns }
         requires all { length v.now ≡ length self.old.columns }
@@ -149,7 +150,7 @@ impl Chosen {
         open_place(&self.columns, v)
     }
 
-    // Puts column `k` in the least place that is open for it, or finds that the columns are dependent.
+    // Gives column `k` the least free place that suits it, or finds that the columns are dependent.
     fn choose(&mut self, alloc: Global, form: &Form, k: u32) -> Result<(), BasisStop>
         requires column { k < form.now.cols + form.now.rows }
         requires all { length self.old.columns ≡ form.now.rows }

@@ -51,7 +51,7 @@ impl Model for Eta {
 }
 
 impl Eta {
-    // The pair of a place and of `column`, a list by places that is not 0 at the place.
+    // The eta pair of a place and of `column`, a list by places that is not 0 at the place.
     pub(crate) fn from_list(alloc: Global, place: u32, column: &Fracs) -> Result<Eta, AllocError>
         requires few { length column.now ≤ row_limit }
         requires inside { place < length column.now }

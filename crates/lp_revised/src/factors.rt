@@ -88,8 +88,8 @@ impl Factors {
         backward_all(&self.etas, v)
     }
 
-    // Puts column `col`, whose solution by `ftran` is `solved`, in a place at which `solved` is not 0, and adds its pair.
-    // After a stop the factors are spent.
+    // Makes column `col`, whose solution by `ftran` is `solved`, the basic one of a place at which `solved` is not 0,
+    // and adds its eta pair. After an error the factors are of no more use.
     pub(crate) fn replace_solved(
         &mut self,
         alloc: Global,

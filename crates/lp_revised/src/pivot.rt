@@ -35,7 +35,8 @@ impl Revised {
         Ok(())
     }
 
-    // Puts column `col`, which is `solved` by places, in a place of the factors, and counts the replacement.
+    // Makes column `col`, which is `solved` by places, the basic one of a place of the factors, and counts the
+    // replacement.
     fn replace(
         &mut self,
         alloc: Global,

@@ -21,7 +21,7 @@ impl Revised {
         self.signed(starts, self.basic(place), solved[place as usize])
     }
 
-    // The better of `best`, the least ratio so far, and position `i`.
+    // The better of `best`, the least ratio of the positions before, and the ratio of position `i`.
     fn best_with(
         &self,
         starts: &[RowStart],

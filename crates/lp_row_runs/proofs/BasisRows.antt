@@ -40,7 +40,7 @@ use Rattle.lp_rows.proofs.Taken.{stated_costs}
 use Rattle.lp_row_runs.specs.declared.elimination.Elimination.{Elimination}
 use Rattle.lp_row_runs.specs.Rows.{IsSolvedBelow, HasSize, ShowsBasis, ShowsStart}
 
--- what is 0 from the nth on adds nothing
+-- terms that are 0 from the nth on add nothing to a sum
 sum_past : (n m : ℕ) (g : ℕ → ℚ) → ((k : ℕ) → n ≤ k → k < n + m → g k ≡ 0ℚ) → sum_below (n + m) g ≡ sum_below n g
 sum_past n zero g none = let e : n + 0 ≡ n = omega arith in ap (λ k. sum_below k g) e
 sum_past n (suc m) g none =

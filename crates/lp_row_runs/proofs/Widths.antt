@@ -1,11 +1,11 @@
 -- One width of words after the other, and the start.
 --
--- `pause_ready`: a run that pauses for wider words leaves a ready state.
+-- `pause_ready`: a run over rows that stops to go on in wider words leaves a state from which a run may go on.
 -- `then_ends`: a result that ends one run ends every run that is equal to it.
 -- `start_size`: the start of a form has the form's rows and columns.
 -- `whole_ends`: a result that ends both phases from the start of a model's form ends the cold run of the form.
 -- `end_stated`: an end of a run that has the certificate in exact fractions is the stated one.
--- `end_narrow`: a certificate whose numbers all have at most 127 bits is narrow.
+-- `end_narrow`: a certificate whose numbers all have at most 127 bits has at most 127 bits.
 use Rattle.std.proofs.Common.{◌≡◌, ℕ, List, Option, None, Result, Ok, Err, IfOk, refl, sym}
 use Rattle.std.proofs.Common.{ap, ◌∙◌, subst}
 use Rattle.spec_exact.specs.Fraction.{ℚ}

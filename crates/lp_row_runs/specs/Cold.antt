@@ -11,7 +11,7 @@ use Rattle.lp_rows.specs.Ends.{AllFit}
 use Rattle.lp_row_runs.specs.Phases.{after_one, row_end_in}
 use Rattle.lp_row_runs.specs.declared.phases.RowEnd.{RowEnd}
 
--- both phases from the tableau that a form begins with
+-- phase one and phase two from the tableau that a form begins with
 abbrev pub start_run : ℕ → Form → Tableau → Result PhasesEnd (RunStop ℚ)
 start_run budget f t = phase_one None budget t >>= after_one budget f
 

@@ -25,7 +25,7 @@ abbrev pub after_one : ℕ → Form → PrimalEnded → Result PhasesEnd (RunSto
 after_one budget f one =
     if is_stuck one.tableau then Ok (Infeasible one.tableau one.used) else phase_two None budget f one
 
--- what is left of both phases from a tableau, before which `used` pivots and flips were made
+-- the further steps of phase one and phase two from a tableau, before which `used` pivots and flips were made
 abbrev pub rest_run : ℕ → Form → Phase → ℕ → Tableau → Result PhasesEnd (RunStop ℚ)
 rest_run budget f One used t = steps_from budget used t >>= after_one budget f
 rest_run budget f Between used t = after_one budget f (record { end = Optimal; tableau = t; used = used })
@@ -68,7 +68,8 @@ pub record IsLeft {T : Type 0} (value : T → ℕ) (budget : ℕ) (f : Form) (wh
   pub shown : Shows value s.tab tableau
   pub same : whole ≡ rest_run budget f s.phase s.used tableau
 
--- both phases end so, or go on from the state in wider words
+-- a run over rows stops right: it ends as phase one and two do, or leaves a state from which wider words go on, or it
+-- gave up
 abbrev pub PausesWith : {N T : Type 0} → (ℚ → N) → (T → ℕ) → ℕ → Form → Result PhasesEnd (RunStop ℚ) → State T →
     PhasesPause N → Type 0
 PausesWith of value budget f whole s (Ended e) = row_end_in of whole ≡ Ok e
@@ -81,19 +82,19 @@ StaysReady value f s (Ended e) = Unit {0}
 StaysReady value f s Narrow = IsReady value f s
 StaysReady value f s GaveUp = Unit {0}
 
--- where the pause is an end this holds of all numbers of its certificate
+-- where a run over rows stopped with an end, this property holds of all numbers of the end's certificate
 abbrev pub HasFit : {N : Type 0} → (N → Type 0) → PhasesPause N → Type 0
 HasFit fits (Ended e) = AllFit fits e.certificate
 HasFit fits Narrow = Unit {0}
 HasFit fits GaveUp = Unit {0}
 
--- both phases over rows stopped with this end at this tableau, after this many pivots and flips, or gave up
+-- a run over rows stopped with this end at this tableau, after this many pivots and flips, or it gave up
 abbrev pub EndsWith : {N : Type 0} → (ℚ → N) → Tableau → ℕ → Option PrimalEnd → PhasesPause N → Type 0
 EndsWith of t used end (Ended e) = e ≡ row_end of (end_by t used end)
 EndsWith of t used end Narrow = ⊥
 EndsWith of t used end GaveUp = Unit {0}
 
--- the pause is for good: no wider words are asked for
+-- a run over rows stopped for good, with an end or because it gave up: it does not ask for wider words
 abbrev pub IsOver : {N : Type 0} → PhasesPause N → Type 0
 IsOver (Ended e) = Unit {0}
 IsOver Narrow = ⊥

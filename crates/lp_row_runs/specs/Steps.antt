@@ -31,7 +31,7 @@ pub record EndsAt {T : Type 0} (value : T → ℕ) (budget used : ℕ) (t : Tabl
   pub shown : Shows value r tableau
   pub ends : steps_from budget used t ≡ Ok (record { end = end; tableau = tableau; used = now })
 
--- steps pause so, with these rows and this count
+-- steps over rows stop right, with these rows and this count: at an end, where a number is past the width, or giving up
 abbrev pub PausesAt : {T : Type 0} → (T → ℕ) → ℕ → ℕ → Tableau → RowTableau T → ℕ → StepsPause → Type 0
 PausesAt value budget used t r now (Ended end) = EndsAt value budget used t r now end
 PausesAt value budget used t r now Narrow = ComesTo value budget used t r now
@@ -43,8 +43,8 @@ pub record Keeps {T : Type 0} (value : T → ℕ) (r s : RowTableau T) : Type 0 
   pub rows : height s ≡ height r
   pub cols : s.cols ≡ r.cols
 
--- at each pause but a giving up the rows are whole and as many as before; a column that nothing stops is structural or
--- logical
+-- unless steps over rows gave up, the rows are whole and as many as before; a column that nothing stops is structural
+-- or logical
 abbrev pub KeepsAt : {T : Type 0} → (T → ℕ) → RowTableau T → RowTableau T → StepsPause → Type 0
 KeepsAt value r s (Ended end) = Keeps value r s × IsInside s (Some end)
 KeepsAt value r s Narrow = Keeps value r s

@@ -79,7 +79,7 @@ fn solved<T: Words>(
     }
 }
 
-// These rows of a basis with the reduced costs of the form.
+// The rows of a basis, with the reduced costs that the form gives them.
 fn with_costs<T: Words>(
     alloc: Global,
     form: &Form,

@@ -88,7 +88,7 @@ fn equations<T: Words>(
     Ok(Some(rows))
 }
 
-// `n` zeros.
+// A list of `n` numbers that are all 0.
 fn zeros<T: Words>(alloc: Global, n: usize) -> Result<Vec<Signed<T>>, AllocError>
     ensures { IfOk result (λ v. AreZeros T.value n v.items) }
 {

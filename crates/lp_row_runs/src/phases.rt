@@ -85,7 +85,7 @@ fn ended<T: Words, N: Listed>(
     }
 }
 
-// Takes the steps of phase two, up to an end or a pause.
+// Takes the steps of phase two, until they end, need wider words, or give up.
 fn second<T: Words, N: Listed>(
     alloc: Global,
     form: &Form,
@@ -138,7 +138,7 @@ fn between<T: Words, N: Listed>(
     second(alloc, form, state, budget, may_widen)
 }
 
-/// Goes on with both phases from `state`, up to an end or a pause.
+/// Goes on with phase one and phase two from `state`, until they end, need wider words, or give up.
 pub(crate) fn go_on<T: Words, N: Listed>(
     alloc: Global,
     form: &Form,

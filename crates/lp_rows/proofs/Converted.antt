@@ -2,7 +2,7 @@
 --
 -- `whole_gives`: a whole number that was converted, if it is within the width, has the value that it was made of.
 -- `number_gives`: a natural number that was converted, if it is within the width, has the value that it was made of.
--- `if_some`: where P implies Q, what is there of which P holds has Q.
+-- `if_some`: where P implies Q, an optional item that has P, if it is there, has Q.
 -- `on_denominator`: the numerator of f times q, over q times the denominator of f, is f.
 -- `fractions_map`: the fractions of a list of numbers on d are each number over d.
 -- `row_with`: the numbers of a list of fractions, with a last one behind, are the row of that list and that last

@@ -2,7 +2,7 @@
 --
 -- `ratios`: g / (d * e) is to h / (d * f) as g * f is to h * e.
 -- `chosen`: the better of two ratios by exact comparison is the better by the order of their crosswise products.
--- `lesser`: where x is below y, the test says so.
+-- `lesser`: where x is below y, the test `nat_lt` is true.
 -- `not_lesser`: where y is at most x, the test of x below y fails.
 use Rattle.std.proofs.Common.{◌≡◌, ℕ, ◌*◌, ◌<◌, ◌≤◌, nat_lt, true, false, arith, ℤ, pos, ◌*ℤ◌, int_cmp, [], ◌∷◌}
 use Rattle.std.proofs.Common.{refl, sym, ap, ap₂, ◌∙◌, Ordering, Option, Some, None, Ok}

@@ -40,7 +40,7 @@ now_written value f old new row m size r l n =
 
 -- ---- over an entry
 
--- 1 is not 0
+-- the fraction 1 is not the fraction 0
 one_is_not_zero : 1ℚ ≢ 0ℚ
 unfolding whole_ℚ
 one_is_not_zero e = absurd (omega (arith, ap (λ (q : ℚ). unsigned_abs q.num) e))

@@ -3,7 +3,7 @@
 -- `zero_is`: where n is 0 and d is 1, n / d is 0.
 -- `one_is`: where n and d are 1, n / d is 1.
 -- `negated_is`: a number of the other sign over d is the negative of the fraction.
--- `shared_is`: both parts over a common divisor make the same fraction.
+-- `shared_is`: dividing the numerator and the denominator by a common divisor leaves the fraction.
 -- `same_sign`: a sign and a magnitude make the same whole number by both definitions.
 -- `ratio_is`: where magnitudes and denominators are equal, the fraction by `with_sign` and the one by `whole` of a
 --   magnitude with a sign are equal.

@@ -1,14 +1,14 @@
 -- The ratio test over a tableau of rows, position by position, and the choice that follows.
 --
--- `by_some`: where P implies Q, what is there of which P holds has Q.
+-- `by_some`: where P implies Q, an optional item that has P, if it is there, has Q.
 -- `stays`: a position whose entry is 0 leaves the best ratio as it was.
 -- `between`: the entering column may move from one bound to the other by their difference on the denominator.
 -- `chosen_by`: where the ratio test gives `best`, the step for the entering column is the one that `best` makes.
 -- `goes_none`: an artificial column may enter in no direction.
 -- `stop_more`: a stop that names no position is a stop of any number of positions.
 -- `range_is`: how far the column itself may move by the rows' bounds is how far it may by the tableau's.
--- `one_position`: where the positions below i give a best ratio, and position i with it the next, those below i + 1
---   give that.
+-- `one_position`: the best ratio of the positions below i and the ratio at position i give the best ratio of those
+--   below i + 1.
 -- `all_positions`: the best ratio after all positions is that of the ratio test.
 -- `choice_is`: where e is the column that enters, the tableau's next step is the one for e.
 -- `priced_is`: the row of costs holds the reduced costs of the tableau that the rows show, with its statuses and

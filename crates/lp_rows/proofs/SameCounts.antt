@@ -46,7 +46,7 @@ directed_on : (way : Way) (n : ℤ) (d : ℕ) → 0 < d → over (toward way n) 
 directed_on Up n d p = refl
 directed_on Down n d p = over_neg n d p
 
--- how far a column goes that flips
+-- in a flip a column moves from one bound to the other, by their distance over the common denominator
 range_on : (way : Way) (d : ℕ) (by range u l : ℤ) (upper lower : Option ℚ) → 0 < d → by ≡ toward way range →
     range ≡ u -ℤ l → over u d ≡ or_zero upper → over l d ≡ or_zero lower →
     over by 1 *ℚ over (pos 1) d ≡ directed way (or_zero upper -ℚ or_zero lower)

@@ -16,7 +16,7 @@ use Rattle.lp_rows.specs.declared.tableau.tableau.RowTableau.{RowTableau}
 use Rattle.lp_rows.specs.Shows.{IsRow, IsWhole, Shows, row_at, height, width, all_width}
 use Rattle.lp_rows.specs.Held.{whole_of, wholes, whole_bounds, whole_row, AreSameNumbers}
 
--- what is there
+-- an optional item that is there has the property that holds of the item if it is there
 pub of_some : {A : Type 0} (P : A → Type 0) (o : Option A) (a : A) → o ≡ Some a → IfSome o P → P a
 of_some P o a e h = subst (λ o. IfSome o P) e h
 

@@ -66,7 +66,7 @@ whole_bounds value bounds = map (option_map (whole_of value)) bounds
 abbrev pub whole_row : {T : Type 0} → (T → ℕ) → Row T → List ℤ × ℕ
 whole_row value row = (wholes value row.numbers.items, value row.denominator)
 
--- the same numbers in other words
+-- two integer-row tableaus of different word types have the same numbers
 pub record AreSameNumbers {T U : Type 0} (value : T → ℕ) (wide : U → ℕ) (r : RowTableau T) (s : RowTableau U) :
     Type 0 where
   pub cols : s.cols ≡ r.cols

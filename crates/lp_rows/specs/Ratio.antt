@@ -50,7 +50,7 @@ gap_by Less lower upper v = rise_run None upper v
 gap_by Equal lower upper v = Ok None
 gap_by Greater lower upper v = fall_run None lower v
 
--- the bound is there, and so is the gap up or down to it; or neither is
+-- where there is a bound, the gap is that from the value up or down to the bound; where there is none, there is no gap
 abbrev pub IsGap : {T : Type 0} → (T → ℕ) → Way → Option (Signed T) → Signed T → ℕ → Status → Option (Gap T) → Type 0
 IsGap value way None v e to None = Unit {0}
 IsGap value way None v e to (Some g) = ⊥

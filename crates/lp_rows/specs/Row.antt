@@ -26,7 +26,7 @@ pub record AreNow {T : Type 0} (value : T → ℕ) (f : ℕ → ℚ) (n : ℕ) (
   pub len : length xs ≡ n
   pub each : (k : ℕ) → k < n → fraction_at value xs d k ≡ f k
 
--- n, or its negative
+-- the number n, or -n where the test is true
 abbrev pub turned_if : Bool → ℤ → ℤ
 turned_if true n = neg_ℤ n
 turned_if false n = n

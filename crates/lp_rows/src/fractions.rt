@@ -30,7 +30,8 @@ pub(crate) struct Shares<T> {
     pub(crate) common: T,
 }
 
-// Both numbers over a divisor that they have in common. There is none where the divisor found does not divide both.
+// Divides two numbers by a divisor that they have in common, or gives `None` where the divisor that is found does not
+// divide both.
 pub(crate) fn share_common<T: Words>(a: T, b: T) -> Option<Shares<T>>
     ensures { IfSome result (λ s. (T.value s.first * T.value s.common ≡ T.value a)
         × (T.value s.second * T.value s.common ≡ T.value b)) }

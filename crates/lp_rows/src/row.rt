@@ -101,7 +101,8 @@ pub(crate) fn turn<T: Words>(row: &mut [Signed<T>], is_turned: bool)
     }
 }
 
-/// Makes of each number what is times `by` the number. Where it is false there is none, and the row is spent.
+/// Divides each number of a row by the number of `by`. Where the answer is false, one is not divisible, and the row is
+/// of no more use.
 pub(crate) fn part<T: Words>(row: &mut [Signed<T>], by: &Divisor<T>) -> bool
     ensures each { IsTrue result → (k : ℕ) → k < length row.old →
         at T.value row.new k *ℤ pos (T.value by.now.number) ≡ at T.value row.old k }

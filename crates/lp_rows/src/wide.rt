@@ -8,7 +8,7 @@ use lp_natural::words::{Signed, Words, natural};
 use lp_ratio::Ratio;
 use std::alloc::{AllocError, Global};
 
-// The same fraction over a divisor of both numbers, as far as one is found.
+// The same fraction with its numerator and its denominator divided by a common divisor, where one is found.
 fn shared<T: Words>(v: RowFraction<T>) -> RowFraction<T>
     requires { 0 < T.value v.denominator }
     ensures value { fraction_of T.value result ≡ fraction_of T.value v }

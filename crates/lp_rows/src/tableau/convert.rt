@@ -142,7 +142,7 @@ pub fn from_tableau<T: Words>(
     parts(alloc, tab)
 }
 
-// The rows that show a tableau, with what is known of each part.
+// The integer rows of a tableau, with a contract for each part of them.
 fn parts<T: Words>(alloc: Global, tab: &Tableau) -> Result<Option<RowTableau<T>>, AllocError>
     ensures { IfOk result (λ o. IfSome o (HoldsParts T.value tab.now)) }
 {

@@ -43,7 +43,7 @@ fn take_off<T: Words>(row: &mut Row<T>, n: usize, by: Signed<T>) -> bool
     less_last(row, n, by, denominator)
 }
 
-// The same number with the other sign.
+// The negative of a number with a sign.
 fn negated<T: Words>(n: Signed<T>) -> Signed<T>
     ensures { whole result.negative (T.value result.size) ≡ neg_ℤ (whole n.negative (T.value n.size)) }
 {

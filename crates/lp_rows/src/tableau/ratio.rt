@@ -88,7 +88,7 @@ fn stop_at<T: Words>(way: Way, at: Position<T>) -> Result<Option<Stopper<T>>, Ov
     Ok(stopper_at(at, gap))
 }
 
-// The first of two stops, as far as there are any.
+// The one of two stops that comes first, where both are there; else the one that is there.
 fn first<T: Words>(new: Option<Stopper<T>>, best: Option<Stopper<T>>) -> Option<Stopper<T>>
     requires new { (n : ℕ) × IsStop T.value n new }
     requires best { (n : ℕ) × IsStop T.value n best }
@@ -130,7 +130,7 @@ fn stop_in<T: Words>(
     stop_at(e.direction, at)
 }
 
-// The first stop so far, with that in position `i` compared too.
+// The stop that comes first among those of earlier positions and that of position `i`.
 fn first_with<T: Words>(
     tab: &RowTableau<T>,
     e: Entering,

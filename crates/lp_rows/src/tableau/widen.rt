@@ -10,7 +10,7 @@ use crate::tableau::tableau::RowTableau;
 use lp_natural::words::{Signed, Words, converted};
 use std::alloc::{AllocError, Global};
 
-// The same number, if it is not past the other width.
+// A number in words of another width, or `None` where it overflows them.
 fn number<T: Words, U: Words>(n: Signed<T>) -> Option<Signed<U>>
     ensures { IfSome result (λ m. whole_of U.value m ≡ whole_of T.value n) }
 {
@@ -23,7 +23,7 @@ fn number<T: Words, U: Words>(n: Signed<T>) -> Option<Signed<U>>
     }
 }
 
-// The same numbers, if none overflows the other width.
+// Numbers in words of another width, or `None` where one overflows them.
 fn numbers<T: Words, U: Words>(
     alloc: Global,
     from: &[Signed<T>],
@@ -40,7 +40,7 @@ fn numbers<T: Words, U: Words>(
     Ok(Some(list))
 }
 
-// The same bound, if it does not overflow the other width.
+// A bound, if there is one, in words of another width, if it does not overflow them.
 fn bound<T: Words, U: Words>(b: Option<Signed<T>>) -> Result<Option<Signed<U>>, Overflow>
     ensures { IfOk result (λ c. option_map (whole_of U.value) c ≡ option_map (whole_of T.value) b) }
 {
@@ -53,7 +53,7 @@ fn bound<T: Words, U: Words>(b: Option<Signed<T>>) -> Result<Option<Signed<U>>, 
     }
 }
 
-// The same bounds, if none overflows the other width.
+// Bounds in words of another width, or `None` where one overflows them.
 fn bounds<T: Words, U: Words>(
     alloc: Global,
     from: &[Option<Signed<T>>],
@@ -77,7 +77,7 @@ fn copied<X: Copy>(alloc: Global, from: &[X]) -> Result<Vec<X>, AllocError>
     from.iter().copied().collect(alloc)
 }
 
-// The same row, if no number overflows the other width.
+// A row in words of another width, or `None` where a number overflows them.
 fn row<T: Words, U: Words>(alloc: Global, from: &Row<T>) -> Result<Option<Row<U>>, AllocError>
     ensures { IfOk result (λ o. IfSome o (λ r. whole_row U.value r ≡ whole_row T.value from.now)) }
 {
@@ -93,7 +93,7 @@ fn row<T: Words, U: Words>(alloc: Global, from: &Row<T>) -> Result<Option<Row<U>
     }
 }
 
-// The same rows, if no number overflows the other width.
+// Rows in words of another width, or `None` where a number overflows them.
 fn rows<T: Words, U: Words>(
     alloc: Global,
     from: &[Row<T>],
@@ -110,7 +110,7 @@ fn rows<T: Words, U: Words>(
     Ok(Some(list))
 }
 
-/// The same rows in words of another width. There are none where a number overflows that width.
+/// An integer-row tableau in words of another width, or `None` where a number overflows them.
 pub fn widened<T: Words, U: Words>(
     alloc: Global,
     tab: &RowTableau<T>,
@@ -125,7 +125,7 @@ pub fn widened<T: Words, U: Words>(
     made(alloc, tab)
 }
 
-// The same rows, with equations of all their numbers.
+// An integer-row tableau in words of another width, with a contract that all its numbers are the same.
 fn made<T: Words, U: Words>(
     alloc: Global,
     tab: &RowTableau<T>,
