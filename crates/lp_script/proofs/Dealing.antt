@@ -2,7 +2,7 @@
 --
 -- `not_equal`: numbers that a comparison finds different are different.
 -- `last_first`: the reverse of a list ends with its first element.
--- `open_more`: a part with room for one reply more may hold one ask more before its turn.
+-- `open_more`: a part with room for one reply more may hold one request more before its turn.
 use Rattle.std.proofs.Common.{◌≡◌, ◌≢◌, ℕ, ◌+◌, ◌<◌, ◌≤◌, ◌%◌, List, [], ◌∷◌, ◌++◌, Bool, true, false, nat_eq, cond}
 use Rattle.std.proofs.Common.{Some}
 use Rattle.std.proofs.Common.{length, map, reverse, set, get_or, eqb-true, eq-eqb, refl, ap, sym, ◌∙◌, subst, arith}

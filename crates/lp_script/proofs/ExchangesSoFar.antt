@@ -1,6 +1,7 @@
 -- The exchanges of the lines that were read so far, and those of more lines.
 --
--- `asks_more`: the asks of more lines come after those of the lines before, where no ask is half read between them.
+-- `asks_more`: the requests of more lines come after those of the lines before, where no request is half read between
+--   them.
 -- `pending_more`: what is half read after more lines depends on these alone, where nothing was half read before them.
 use Rattle.std.proofs.Common.{◌≡◌, ℕ, List, [], ◌++◌, map, ap, sym, ◌∙◌, append-nil, refl, subst}
 use Rattle.spec_text.specs.declared.line.Line.{Line}

@@ -169,7 +169,7 @@ first_of : (workers : List (Worker Part)) → 0 < length workers → Worker Part
 first_of [] l = absurd (omega (arith, l))
 first_of (w ∷ workers) l = w
 
--- a worker whose number is no less than the number of workers has no asks
+-- a worker whose number is no less than the number of workers has no requests
 none_past : (n i : ℕ) (asks : List (Asked ExactAsk)) → 0 < n → n ≤ i → asks_of_worker n i asks ≡ []
 none_past n i [] some past = refl
 none_past n i (a ∷ asks) some past = by (nat_eq (a.session % n) i) refl (none_past n i asks some past)

@@ -33,7 +33,7 @@ use Rattle.lp_script.proofs.ExchangesSoFar.{IsSoFar, goes_on}
 
 -- ---- scripts by their length
 
--- the ended asks of a script are those of the ended lines among its bytes, up to the limit of an input
+-- the ended requests of a script are those of the ended lines among its bytes, up to the limit of an input
 ended_asks : (read : List ℕ) →
     ended_asks_of Numbered read ≡ asks_from Numbered Between (ended_lines_of (take input_limit read))
 unfolding ended_asks_of

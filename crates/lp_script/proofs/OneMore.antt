@@ -3,8 +3,8 @@
 -- `one_run`: after one step of the asked session, each session has run alone to its new state.
 -- `rests`: each of sessions at rest awaits nothing.
 -- `rests_more`: sessions at rest stay at rest when one of them is replaced by one that awaits nothing.
--- `turn_begins`: a part that is open begins its turn by a fresh pass, and has had no ask.
--- `used_of`: the pass of a worker that has had some asks is used: one of the board's, and with reads in order.
+-- `turn_begins`: a part that is open begins its turn by a fresh pass, and has had no request.
+-- `used_of`: the pass of a worker that has had some requests is used: one of the board's, and with reads in order.
 use Rattle.std.proofs.Common.{◌≡◌, ◌≢◌, ℕ, ◌+◌, ◌<◌, ◌≤◌, List, [], ◌∷◌, ◌++◌, Bool, true, false, nat_eq, cond, length}
 use Rattle.std.proofs.Common.{reverse, set, get_or, eqb-true, refl, ap, sym, ◌∙◌, subst}
 use Rattle.std.proofs.Common.{append-nil, Some, replicate, arith, ⊎_elim}

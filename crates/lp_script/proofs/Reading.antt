@@ -1,6 +1,6 @@
 -- The reading of a script, ask by ask.
 --
--- `reading_start`: before anything was read, no lines and no asks were.
+-- `reading_start`: before anything was read, no lines and no requests were.
 -- `reads_nothing`: reading nothing is reading some lines.
 -- `takes_as`: a next ask that is taken with one outcome is taken with an equal one.
 -- `ends_early`: a reading that runs out of memory has read some lines.

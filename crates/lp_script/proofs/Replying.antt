@@ -108,7 +108,7 @@ replies_of : (xs : List Exchange) → replies_out (map (λ x. x.session) xs) (ma
 replies_of [] = refl
 replies_of (x ∷ xs) = ap (λ zs. lines_of_reply (x.session, x.reply) ++ zs) (replies_of xs)
 
--- the asks of exchanges are of the sessions of the exchanges
+-- the requests of exchanges are of the sessions of the exchanges
 sessions_in : (xs : List Exchange) →
     map (λ (asked : Asked ExactAsk). asked.session) (map asked_in xs) ≡ map (λ (x : Exchange). x.session) xs
 sessions_in [] = refl

@@ -3,8 +3,8 @@
 -- `states-replicate`: the states of new sessions at rest are opening states.
 -- `rests`: each of sessions at rest awaits nothing.
 -- `rests_more`: 65 sessions at rest stay so when one of them is replaced by one that awaits nothing.
--- `answers_ok`: a step whose reply was written answers its ask; if the write failed there is nothing to show.
--- `answers_part`: a step of which a prefix of the reply was written answers its ask in part.
+-- `answers_ok`: a step whose reply was written answers its request; if the write failed there is nothing to show.
+-- `answers_part`: a step of which a prefix of the reply was written answers its request in part.
 use Rattle.std.proofs.Common.{◌≡◌, ℕ, zero, suc, ◌<◌, List, [], ◌∷◌, length, replicate, set, get_or}
 use Rattle.std.proofs.Common.{Option, Result, Ok, Err, OnOk, refl, ap, sym, ◌∙◌, subst}
 use Rattle.std.specs.Io.KnownBytes.{Appends}

@@ -18,7 +18,7 @@ pub record Together : Type 0 where
 abbrev pub states_of : List Standing → List State
 states_of all = map (λ session. session.state) all
 
--- none of them is in the middle of an ask
+-- none of them is in the middle of a request
 abbrev pub AreAtRest : List Standing → Type 0
 AreAtRest all = All (λ session. session.awaits ≡ Nothing) all
 

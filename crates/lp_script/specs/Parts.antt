@@ -18,7 +18,7 @@ use Rattle.lp_workers.specs.declared.hiring.Worker.{Worker}
 use Rattle.lp_script.specs.Answer.{states_of, state_at, AreAtRest}
 use Rattle.lp_script.specs.declared.part.Part.{Part}
 
--- Before its turn: its sessions are as they open, and it has room for the replies to its asks.
+-- Before its turn: its sessions are as they open, and it has room for the replies to its requests.
 pub record IsOpen (part : Part) : Type 0 where
   pub sessions : part.sessions.items ≡ replicate 65 (at_rest opening)
   pub solves : length part.solves.items ≡ 65
@@ -27,7 +27,7 @@ pub record IsOpen (part : Part) : Type 0 where
   pub numbered : All (λ (asked : Asked ExactAsk). asked.session ≤ 64) part.asks.items
 
 -- Its pass is one of the board's, with one of the 64 parts; each of its notes was so, and is later than those before.
--- Its sessions are in the middle of no ask.
+-- Its sessions are in the middle of no request.
 pub record IsHired (board : Board) (w : Worker Part) : Type 0 where
   pub of_board : w.pass.board ≡ id_of board
   pub places : w.pass.view.places ≡ board.places
@@ -39,7 +39,7 @@ pub record IsHired (board : Board) (w : Worker Part) : Type 0 where
   pub counted : length w.job.solves.items ≡ 65
   pub at_rest : AreAtRest w.job.sessions.items
 
--- There were exchanges of these asks, the first one first, with these replies: the sessions ran alone in them, from
+-- There were exchanges of these requests, the first one first, with these replies: the sessions ran alone in them, from
 -- their opening, and the pass with this view read what they read.
 pub record HaveHad (asks : List (Asked ExactAsk)) (replies : List ExactReply) (view : View) (all : List Standing) :
     Type 0 where
@@ -51,22 +51,22 @@ pub record HaveHad (asks : List (Asked ExactAsk)) (replies : List ExactReply) (v
   pub reads : reads_of view ≡ reads_in_all exchanges
   pub orderly : IsOrderly view
 
--- the worker has had these asks, with these replies
+-- the worker has had these requests, with these replies
 abbrev pub HasHad : List (Asked ExactAsk) → List ExactReply → Worker Part → Type 0
 HasHad asks replies w = HaveHad asks replies w.pass.view w.job.sessions.items
 
--- The worker has had these asks, and has room for the replies to those that it still holds.
+-- The worker has had these requests, and has room for the replies to those that it still holds.
 pub record IsServing (board : Board) (asks : List (Asked ExactAsk)) (w : Worker Part) : Type 0 where
   pub hired : IsHired board w
   pub had : HasHad asks w.job.replies.items w
   pub room : vec_len w.job.replies + vec_len w.job.asks ≤ vec_capacity w.job.replies
   pub sessions : All (λ (asked : Asked ExactAsk). asked.session ≤ 64) w.job.asks.items
 
--- after its turn: it has had the asks that it held, of which the last one in the list stood first
+-- after its turn: it has had the requests that it held, of which the last one in the list stood first
 abbrev pub HasServed : Board → Worker Part → Worker Part → Type 0
 HasServed board old new = IsServing board (reverse old.job.asks.items) new
 
--- the turn of a part by a pass: it has had the asks that it held
+-- the turn of a part by a pass: it has had the requests that it held
 abbrev pub Took : Board → Part → Known → Part → Known → Type 0
 Took board old pass new passed =
     HasServed board (record { job = old; pass = pass }) (record { job = new; pass = passed })

@@ -15,7 +15,8 @@ use Rattle.lp_line.specs.declared.halt.Halt.{Halt}
 use Rattle.lp_line.specs.declared.halt.Halt.TheVariants as halts
 use Rattle.spec_server.specs.Streams.{Streams}
 
--- these are the asks of the lines that end among the bytes; or all asks of the script, where the input has ended
+-- these are the requests of the lines that end among the bytes; or all requests of the script, where the input has
+-- ended
 abbrev pub AreAsked : Option (List ℕ) → List ℕ → List (Asked ExactAsk) → Type 0
 AreAsked after read asks =
     (asks ≡ ended_asks_of Numbered read) ⊎ ((asks ≡ (script_of Numbered read).asks) × IsAtEnd after)
@@ -36,7 +37,7 @@ pub record Moves (workers places : ℕ) (s : Streams) : Type 0 where
 abbrev pub IsWhole : {workers places : ℕ} {s : Streams} → Moves workers places s → Type 0
 IsWhole moves = moves.written ≡ script_out moves.exchanges
 
--- the bytes are a whole script with this end, the exchanges are those of its asks, and the whole output was written
+-- the bytes are a whole script with this end, the exchanges are those of its requests, and the whole output was written
 pub record EndsWith {workers places : ℕ} {s : Streams} (moves : Moves workers places s) (ending : Ending) : Type 0 where
   pub script : script_of Numbered moves.read ≡ record { asks = map asked_in moves.exchanges; ending = ending }
   pub whole : IsWhole moves

@@ -25,7 +25,7 @@ ReadsTo before after lines (Err halts.Read) = ReadsToFault before after lines
 ReadsTo before after lines (Err halts.Write) = ⊥
 ReadsTo before after lines (Err halts.NoMemory) = ⊥
 
--- these are the asks of the lines that were read
+-- these are the requests of the lines that were read
 pub record IsRead (before after : Option (List ℕ)) (asks : List (Asked ExactAsk)) (end : Result (Unit {0}) Halt) :
     Type 0 where
   pub lines : List (Line (List ℕ))

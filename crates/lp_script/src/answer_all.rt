@@ -11,7 +11,7 @@ use std::alloc::{AllocError, Global};
 use std::sync::Wait;
 use std::thread::Threads;
 
-/// Answers the asks on so many threads, which share so many places. The replies come in the order of the asks.
+/// Answers the requests on so many threads, which share so many places. The replies come in the order of the requests.
 pub(crate) fn answer_all<R: Threads + Wait + Sync, G: Gate + Sync>(
     rt: &R,
     alloc: Global,

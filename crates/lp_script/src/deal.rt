@@ -21,7 +21,8 @@ pub(crate) fn open_parts(alloc: Global, workers: u32) -> Result<Vec<Part>, Alloc
     Ok(parts)
 }
 
-/// Deals the asks to the parts, of which there is one at least. It gives the sessions of the asks, the last one first.
+/// Deals the requests to the parts, of which there is one at least. It gives the sessions of the requests, the last one
+/// first.
 pub(crate) fn deal(
     alloc: Global,
     mut asks: Vec<Asked>,
@@ -45,7 +46,7 @@ pub(crate) fn deal(
     Ok(sessions)
 }
 
-/// The replies of the parts in the order of the asks, whose sessions these are, the last one first.
+/// The replies of the parts in the order of the requests, whose sessions these are, the last one first.
 pub(crate) fn collect(
     alloc: Global,
     sessions: &[u32],

@@ -11,7 +11,7 @@ use lp_base::{Lines, Sink, Source};
 use lp_line::{Addressing, Halt, take};
 use std::alloc::Global;
 
-/// Answers each ask of a script before it reads the next one, from its start and with all sessions as they open.
+/// Answers each request of a script before it reads the next one, from its start and with all sessions as they open.
 pub(crate) fn answer_asks<S: Source, K: Sink>(
     alloc: Global,
     lines: &mut Lines,

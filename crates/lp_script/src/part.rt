@@ -26,7 +26,7 @@ pub struct Part {
     pub(crate) replies: Vec<Reply>,
 }
 
-// Tells the gate of the ask, if it is a solve, and counts it.
+// Tells the gate of the request, if it is a solve, and counts it.
 fn tell<R: Wait, G: Gate>(rt: &R, gate: &G, asked: &Asked, solves: &mut u64)
     ensures { (solves.new ≡ solves.old) ⊎ (solves.new ≡ solves.old + 1) ⊎ (solves.new ≡ 2 ^ 64 - 1) }
 {
@@ -50,7 +50,7 @@ impl Part {
         })
     }
 
-    /// Takes one more ask, which stands before those that it holds, and makes room for its reply.
+    /// Takes one more request, which stands before those that it holds, and makes room for its reply.
     pub(crate) fn take(&mut self, asked: Asked) -> Result<(), AllocError>
         ensures asks { OnOk result (self.new.asks.items ≡ self.old.asks.items ++ asked ∷ []) }
         ensures room { OnOk result (vec_len self.new.replies + vec_len self.new.asks ≤ vec_capacity self.new.replies) }
@@ -63,7 +63,7 @@ impl Part {
         Ok(())
     }
 
-    // The reply to one ask.
+    // The reply to one request.
     fn answer<R: Wait, G: Gate>(
         &mut self,
         rt: &R,
@@ -93,7 +93,7 @@ impl<G: Gate + Sync> Turn<G> for Part {
 
     ghost took = { λ _. Took };
 
-    // Answers its asks, in the order of the script.
+    // Answers its requests, in the order of the script.
     fn turn<R: Wait>(&mut self, rt: &R, alloc: Global, shared: &G, board: &Board, pass: &mut Pass) {
         while let Some(asked) = self.asks.pop() {
             let reply = self.answer(rt, alloc, board, pass, shared, asked);

@@ -14,8 +14,8 @@ use std::alloc::Global;
 use std::sync::Wait;
 use std::thread::Threads;
 
-/// Answers the asks of the script that the source gives, by so many workers, and writes the replies in their order. The
-/// sessions share so many places.
+/// Answers the requests of the script that the source gives, by so many workers, and writes the replies in their order.
+/// The sessions share so many places.
 pub fn run_script<R: Threads + Wait + Sync, S: Source, K: Sink, G: Gate + Sync>(
     rt: &R,
     alloc: Global,

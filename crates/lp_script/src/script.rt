@@ -14,7 +14,7 @@ pub(crate) struct Script {
     pub(crate) end: Result<(), Halt>,
 }
 
-/// Reads the asks of a script up to its end, or to what halts it.
+/// Reads the requests of a script up to its end, or to what halts it.
 pub(crate) fn read_script<S: Source>(alloc: Global, src: &mut S) -> Result<Script, AllocError>
     ensures script { ReadsScript (S.left src.old) (S.left src.new) result }
     ensures read { IfOk result (λ script.

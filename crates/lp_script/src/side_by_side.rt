@@ -17,7 +17,7 @@ use std::alloc::{AllocError, Global};
 use std::sync::Wait;
 use std::thread::Threads;
 
-// The sessions of asks, in their order.
+// The sessions of requests, in their order.
 fn sessions_of(alloc: Global, asks: &[Asked]) -> Result<Vec<u32>, AllocError>
     ensures { IfOk result (λ sessions. sessions.items ≡ map (λ asked. asked.session) asks.now) }
 {
@@ -46,7 +46,7 @@ fn write<K: Sink>(
     Ok(())
 }
 
-/// Reads the script that the source gives to its end, answers its asks on so many threads, and writes the replies.
+/// Reads the script that the source gives to its end, answers its requests on so many threads, and writes the replies.
 pub(crate) fn run_side_by_side<R: Threads + Wait + Sync, S: Source, K: Sink, G: Gate + Sync>(
     rt: &R,
     alloc: Global,

@@ -1,8 +1,8 @@
 -- What was read of a connection, and the asks that come first in all that it sends.
 --
 -- `holds_too`: where one property implies another, the other holds of all that is sent if the one does.
--- `fewer_first`: the first of asks that come first come first.
--- `reads_first`: the asks of lines that were read come first in all that is sent.
+-- `fewer_first`: the first of requests that come first come first.
+-- `reads_first`: the requests of lines that were read come first in all that is sent.
 use Rattle.std.proofs.Common.{◌≡◌, ℕ, ◌≤◌, ◌^◌, List, ◌++◌, length, take, Bool, true, false, Option, Err, ap, sym}
 use Rattle.std.proofs.Common.{◌∙◌, refl, subst, inl, inr, ⊎_elim, append_assoc, arith}
 use Rattle.std.specs.Io.KnownBytes.{Consumes}

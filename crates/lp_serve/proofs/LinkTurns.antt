@@ -70,7 +70,7 @@ whole_front xs = ([], append-nil (link_out xs))
 
 -- ---- what the service is
 
--- these are the first asks, and all
+-- these are the first requests, and all
 all_first : (asks : List (Asked ExactAsk)) (ending : Ending) (s : Script) →
     s ≡ record { asks = asks; ending = ending } → AreFirstOf asks s.asks
 all_first asks ending s is = ([], ap (λ (r : Script). r.asks) is ∙ sym (append-nil asks))

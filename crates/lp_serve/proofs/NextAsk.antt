@@ -9,7 +9,7 @@ use Rattle.lp_line.specs.Takes.{TakesAsk, TakesNext, TakesMore}
 use Rattle.lp_line.specs.Script as script
 use Rattle.lp_serve.specs.Service as service
 
--- an ask that was taken from lines without numbers of sessions is of session 0
+-- a request that was taken from lines without numbers of sessions is of session 0
 pub of_session_0 : (before after : Option (List ℕ)) (old new : LinesState) (result : script.NextAsk)
     (asked : Asked ExactAsk) → result ≡ Ok (Some asked) → TakesNext Alone before after old new result →
     TakesMore old new result → service.TakesAsk before after old new (Ok asked.ask)

@@ -81,7 +81,7 @@ fn count(work: &mut LinkWork, reply: &Reply, session: &Session) {
     }
 }
 
-// Answers the asks of a link, from the start of its lines and of its session.
+// Answers the requests of a link, from the start of its lines and of its session.
 fn serve_asks<L: Link>(
     alloc: Global,
     link: &mut L,

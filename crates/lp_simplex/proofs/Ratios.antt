@@ -68,7 +68,7 @@ pub record IsGap (way : Way) (a : ℚ) (lower upper : Option ℚ) (v gap : ℚ) 
   pub entry : a ≢ 0ℚ
   pub lands : (r : ℚ) → r *ℚ abs_ℚ a ≡ gap → NamesBound to lower upper (v -ℚ directed way r *ℚ a)
 
--- a value less r, turned as the column moves, times a, is the value less r times a turned so
+-- turning r or turning a gives the same value: v less the turned r times a is v less r times the turned a
 moved_is : (way : Way) (v r a : ℚ) → v -ℚ directed way r *ℚ a ≡ v -ℚ r *ℚ directed way a
 moved_is way v r a = ap (λ x. v -ℚ x) (directed_times way r a)
 

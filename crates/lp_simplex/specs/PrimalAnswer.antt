@@ -12,7 +12,7 @@ use Rattle.spec_simplex.specs.Tableau.{Tableau}
 use Rattle.spec_simplex.specs.Step.{choice_run}
 use Rattle.spec_simplex.specs.Phases.{PrimalEnded, done_run}
 
--- the steps end so, with this tableau and this count, or stop so
+-- a run of primal steps ends with this end, this tableau and this count of steps, or it stops for this reason
 abbrev pub Runs : Result PrimalEnded (RunStop ℚ) → Tableau → ℕ → Result PrimalEnd (RunStop ℚ) → Type 0
 Runs answer t used (Ok end) = answer ≡ Ok (record { end = end; tableau = t; used = used })
 Runs answer t used (Err stop) = answer ≡ Err stop

@@ -42,7 +42,7 @@ abbrev pub IsPlace : Tableau → DualEnd → Type 0
 IsPlace t Optimal = Unit {0}
 IsPlace t (Infeasible p way) = p < t.rows
 
--- what a choice asks for may be done
+-- a dual choice can be carried out: an end names a position, and a pivot one on which its column can enter
 abbrev pub CanTake : Tableau → DualChoice → Type 0
 CanTake t (End end) = IsPlace t end
 CanTake t (Pivot p j to) = CanEnter t p j to

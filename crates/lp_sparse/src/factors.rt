@@ -32,7 +32,7 @@ pub struct Factors<F: Field> {
 }
 
 impl<F: Field> Factors<F> {
-    /// No steps yet.
+    /// Factors that have no steps yet.
     pub(crate) fn new(alloc: Global) -> Self {
         Factors {
             rows: Vec::new(alloc),
@@ -120,7 +120,7 @@ fn value_at<F: Field>(numbers: &[F], k: usize) -> F {
     }
 }
 
-// Puts a number at `k`.
+// Sets the number at place `k` of a list.
 #[inline(always)]
 fn put_value<F: Field>(numbers: &mut [F], k: usize, value: F) {
     if let Some(number) = numbers.get_mut(k) {
@@ -134,7 +134,7 @@ impl<F: Field> Factors<F> {
         self.rows.len()
     }
 
-    /// Whether there are none.
+    /// Whether the factors have no steps, as of a matrix without rows.
     pub fn is_empty(&self) -> bool {
         self.rows.is_empty()
     }
@@ -222,7 +222,7 @@ fn eliminate_all<F: Field>(
     Ok(())
 }
 
-// Those that are left.
+// The rows, or the columns, that have no pivot.
 fn left(alloc: Global, buckets: &Buckets, len: usize) -> Result<Vec<usize>, AllocError> {
     let mut list = Vec::new(alloc);
     for k in 0..len {
@@ -233,7 +233,7 @@ fn left(alloc: Global, buckets: &Buckets, len: usize) -> Result<Vec<usize>, Allo
     Ok(list)
 }
 
-// What is left without a pivot.
+// The rows and columns that have no pivot, as the answer that the matrix is singular.
 fn singular<F: Field>(alloc: Global, active: &Active<F>) -> Result<Factored<F>, AllocError> {
     let rows = left(alloc, &active.by_row, active.rows.len())?;
     let columns = left(alloc, &active.by_column, active.columns.len())?;

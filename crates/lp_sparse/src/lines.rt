@@ -64,13 +64,13 @@ impl<T: Copy> Lines<T> {
         Ok(())
     }
 
-    /// Ends a line.
+    /// Ends the line to which numbers were added.
     pub fn end(&mut self) -> Result<(), AllocError> {
         self.ends.push(self.entries.len())?;
         Ok(())
     }
 
-    // Where a line begins.
+    // The index of the first number of line `k` among all numbers.
     #[inline(always)]
     fn start(&self, k: usize) -> usize {
         if k == 0 { 0 } else { at(&self.ends, k - 1) }
@@ -110,7 +110,7 @@ fn begin(counts: &mut [usize]) {
     }
 }
 
-// Puts the numbers of one line, under this name, where the lines of their places go on.
+// Writes the numbers of one line, with its name, behind the earlier numbers of the lines that their places name.
 fn spread<T: Copy>(line: &[Entry<T>], name: usize, ends: &mut [usize], entries: &mut [Entry<T>]) {
     for entry in line {
         let end = at(ends, entry.place);

@@ -25,12 +25,13 @@ impl<F: Field> Matrix<F> {
         }
     }
 
-    /// Puts a number, that is not 0, into this row of the column that is not ended. A row has one number at most.
+    /// Adds a number that is not 0 to the column that is not ended, in this row. A row has at most one number of the
+    /// column.
     pub fn put(&mut self, row: usize, value: F) -> Result<(), AllocError> {
         self.columns.put(row, value)
     }
 
-    /// Ends a column.
+    /// Ends the column to which numbers were added.
     pub fn end_column(&mut self) -> Result<(), AllocError> {
         self.columns.end()
     }

@@ -134,12 +134,12 @@ impl Field for Residue {
         true
     }
 
-    // The same for each residue but 0.
+    // The size of a residue for the choice of pivots: 0 for the residue 0, and 1 for any other.
     fn magnitude(self) -> f64 {
         if self.word == 0 { 0.0 } else { 1.0 }
     }
 
-    // Whether it is 0.
+    // Whether the residue is 0.
     #[inline(always)]
     fn is_negligible(self) -> bool {
         self.word == 0

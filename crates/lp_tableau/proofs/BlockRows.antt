@@ -117,7 +117,7 @@ zero_within : IsWithin number_limit 0ℚ
 unfolding whole
 zero_within = record { num_fits = omega arith; den_fits = omega arith }
 
--- where all items of a list are within the limit, so is what is read at any place of it
+-- where all items of a list are within the limit, so is the item at any place, or the 0 that is read behind the list
 within_item : (xs : List ℚ) (k : ℕ) → All (IsWithin number_limit) xs → IsWithin number_limit (get_or xs k 0ℚ)
 within_item xs k h =
     ⊎_elim (λ l. All-get_or (IsWithin number_limit) xs k 0ℚ l h)

@@ -7,7 +7,8 @@
 -- `no_row_done`: a row among rows is done up to item 0 before any item is replaced.
 -- `one_row_done`: where row p is done up to item k and item k is replaced by the run's, it is done up to k + 1.
 -- `row_all_done`: where row p has n items and is done up to item n, the run over the row and its write give the rows.
--- `row_stops`: where row p is done up to item k, and the run refuses item k, the run over the row is refused so.
+-- `row_stops`: where row p is done up to item k, and the run refuses item k, the run over the whole row is refused at
+--   that operation.
 -- `row_as_before`: where row p is done up to item k, its item k is as it was.
 -- `others_as_before`: where a row is done up to some item, each other row is as it was.
 -- `other_as_before`: where a row is done up to some item, each item of another row is as it was.

@@ -50,12 +50,12 @@ abbrev negated : Option ℚ → Option ℚ
 negated None = None
 negated (Some x) = Some (neg_ℚ x)
 
--- negating what is x where a test holds gives the negative of x where it holds
+-- the negative of an optional x that is there where a test holds is an optional -x that is there where the test holds
 negated_cond : (t : Bool) (x : ℚ) → negated (cond t (Some x) None) ≡ cond t (Some (neg_ℚ x)) None
 negated_cond true x = refl
 negated_cond false x = refl
 
--- a number times the negative of w is the negative of its product with w, and refused where that one is
+-- v times the negative of w is the negative of v times w, and is refused exactly where v times w is refused
 mul_right_neg : (limit : Option ℕ) (v w : ℚ) → mul limit v (neg_ℚ w) ≡ negated (mul limit v w)
 unfolding neg_ℚ
 mul_right_neg limit v w =
@@ -64,7 +64,8 @@ mul_right_neg limit v w =
     (abs-neg_ℤ w.num) (*ℚ-neg v w)
     ∙ sym (negated_cond _ (v *ℚ w)) ∙ ap negated (sym (mul_is limit v w))
 
--- the negative of v times a number is the negative of v's product with it, and refused where that one is
+-- the negative of v times w is the negative of v times w as a product, and is refused exactly where that product is
+-- refused
 mul_left_neg : (limit : Option ℕ) (v w : ℚ) → mul limit (neg_ℚ v) w ≡ negated (mul limit v w)
 unfolding neg_ℚ
 mul_left_neg limit v w =

@@ -19,7 +19,7 @@ StopsAt run (stop.Cause why) = run ≡ Err start.Singular
 StopsAt run (stop.Past p) = run ≡ Err (start.Past p)
 StopsAt run stop.NoMemory = ⊤
 
--- the elimination gives these rows and columns, or stops so
+-- the elimination of a basis gives these rows and basic columns, or stops for this reason
 abbrev pub Solves : Result Elimination (StartStop ℚ) → List (List ℚ) → List (Option ℕ) → Result ⊤ (Stop Singular) →
     Type 0
 Solves run rows basic (Ok u) = run ≡ Ok (record { rows = rows; basic = basic })

@@ -6,7 +6,7 @@ use Rattle.spec_exact.specs.Run.{Run, ◌>>=◌, made, list_run, quotient_run, l
 use Rattle.spec_simplex.specs.Tableau.{at_place}
 use Rattle.lp_tableau.specs.Grid.{IsGrid}
 
--- v, or its negative
+-- the number v, or -v where the test is true
 abbrev pub signed : Bool → ℚ → ℚ
 signed b v = if b then neg_ℚ v else v
 

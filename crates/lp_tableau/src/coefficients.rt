@@ -7,7 +7,7 @@ use crate::start::zeros;
 use lp_form::Form;
 use std::alloc::{AllocError, Global};
 
-// Puts the entries of column `j` in their rows.
+// Writes the entries of column `j` into their rows of the grid.
 fn put_column(grid: &mut Grid, form: &Form, j: u32)
     requires column { j < form.now.cols }
     requires held { HoldsColumns form.now j grid.old }

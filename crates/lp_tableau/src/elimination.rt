@@ -141,7 +141,7 @@ fn clear_twins(
     clear(grid, others, first + others, at.position, times, i, spots)
 }
 
-// Turns all rows so that the pivot's column has 1 in the row of its position and 0 in the others.
+// Turns all rows so that the pivot's column has 1 in the row of its position and 0 in all other rows.
 pub(crate) fn turn(
     grid: &mut Grid,
     first: u32,

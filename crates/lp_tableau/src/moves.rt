@@ -102,7 +102,7 @@ impl Tableau {
         Ok(())
     }
 
-    // Puts column `col` at the bound `to`, with its value.
+    // Sets the status of column `col` to the bound `to`, and its value to that bound.
     pub(crate) fn put_at(&mut self, col: u32, to: Status)
         requires { col < all_columns self.old }
         ensures { self.new ≡ flipped self.old col to self.old.value }

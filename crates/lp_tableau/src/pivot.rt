@@ -56,7 +56,7 @@ impl Tableau {
         Ok(())
     }
 
-    // Turns the rows so that the pivot's column has 1 at its position and 0 at the others.
+    // Turns the rows so that the pivot's column has 1 at its position and 0 at all other positions.
     fn turn_rows(&mut self, at: Pivot) -> Result<(), Past>
         requires place { at.position < self.old.rows }
         requires column { at.column < all_columns self.old }
@@ -94,8 +94,8 @@ impl Tableau {
         self.status[at.column as usize] = Status::Basic;
     }
 
-    // Puts the column at the pivot's position at the bound `to`, and makes the pivot's column basic there. An
-    // artificial that leaves is at 0 for good.
+    // Makes the column at the pivot's position nonbasic at the bound `to`, and the pivot's column basic there. An
+    // artificial column that leaves has the bound 0 from then on.
     fn exchange(&mut self, at: Pivot, to: Status)
         requires place { at.position < self.old.rows }
         requires column { at.column < all_columns self.old }

@@ -312,7 +312,7 @@ pub fn statuses(alloc: Global, form: &Form, starts: &[RowStart]) -> Result<Vec<S
     listed!(alloc, k in 0..width(form) => status(form, starts, k))
 }
 
-/// These bounds of structural and logical columns, and the bound 0 for each artificial column.
+/// The given bounds of structural and logical columns, and behind them the bound 0 for each artificial column.
 pub fn with_artificials(
     alloc: Global,
     bounds: &[Option<Frac>],
@@ -347,7 +347,7 @@ pub fn uppers(
     Ok(uppers)
 }
 
-// A list of zeros.
+// A list of `n` fractions that are all 0.
 pub(crate) fn zeros(alloc: Global, n: usize) -> Result<Vec<Frac>, AllocError>
     ensures { IfOk result (λ v. v.items ≡ replicate n 0ℚ) }
 {

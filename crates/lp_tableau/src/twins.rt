@@ -59,7 +59,7 @@ impl Twins {
         item(&self.grid, self.first, self.others, &self.turned, i, k)
     }
 
-    // Turns all rows so that the pivot's column has 1 in the row of its position and 0 in the others.
+    // Turns all rows so that the pivot's column has 1 in the row of its position and 0 in all other rows.
     pub(crate) fn turn(&mut self, height: u32, width: u32, at: Pivot) -> Result<(), Past>
         requires shape { IsGrid height width self.old }
         requires place { at.position < height }

@@ -194,7 +194,7 @@ output_true (Some (Serve workers each places)) s olds news code does over status
 
 -- ---- links
 
--- the asks up to the first QUIT come first among the asks
+-- the requests up to the first QUIT come first among the requests
 quit_first : (asks : List (Asked ExactAsk)) → (later : List (Asked ExactAsk)) × (asks ≡ up_to_quit asks ++ later)
 quit_first [] = ([], refl)
 quit_first (a ∷ asks) = by (is_quit a.ask) (quit_first asks)
@@ -204,7 +204,7 @@ quit_first (a ∷ asks) = by (is_quit a.ask) (quit_first asks)
     by true r = (asks, refl)
     by false r = (r.0, ap (λ (all : List (Asked ExactAsk)). a ∷ all) r.1)
 
--- the first asks of a link are the first of its lines
+-- the first requests of a link are the first of its lines
 link_first : (bytes : List ℕ) (asks : List (Asked ExactAsk)) → AreFirstOf asks (link_asks_of bytes).asks →
     AreFirstIn Alone asks bytes
 unfolding link_asks_of
@@ -217,7 +217,7 @@ link_first bytes asks first =
           ∙ append_assoc (asks ++ first.0) quit.0 script.0 ∙ append_assoc asks first.0 (quit.0 ++ script.0),
     )
 
--- the first asks of a connection come first in all that is sent
+-- the first requests of a connection come first in all that is sent
 link_asked : (after : Option (List ℕ)) (read : List ℕ) (asks : List (Asked ExactAsk)) →
     HoldsOfAll after read (λ bytes. AreFirstOf asks (link_asks_of bytes).asks) →
     HoldsOfAll after read (AreFirstIn Alone asks)

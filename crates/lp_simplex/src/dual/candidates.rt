@@ -49,7 +49,7 @@ fn cheaper(new: Cheapest, best: Option<Cheapest>) -> Result<Option<Cheapest>, Pa
     }
 }
 
-// The best column so far, with column `k` compared too.
+// The best of the columns that were compared before, with column `k` compared too.
 fn cheapest_with(
     tab: &Tableau,
     out: Outside,

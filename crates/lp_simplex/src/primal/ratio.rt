@@ -97,7 +97,8 @@ pub struct Position {
     pub value: Frac,
 }
 
-/// The best ratio so far after one more position, where the entering column moves in this way.
+/// The best ratio of the positions that were compared before and of one more, where the entering column moves in this
+/// way.
 #[inline(always)]
 pub fn best_at(way: Way, at: Position, best: Option<Best>) -> Result<Option<Best>, Past>
     ensures { result ≡ best_at_of way at.place at.col at.entry at.lower at.upper at.value best }
@@ -120,7 +121,7 @@ pub fn best_at(way: Way, at: Position, best: Option<Best>) -> Result<Option<Best
     }
 }
 
-// The best ratio so far, with that of position `i` compared too.
+// The best ratio of the positions that were compared before and of position `i`.
 fn best_with(tab: &Tableau, e: Entering, i: u32, best: Option<Best>) -> Result<Option<Best>, Past>
     requires column { e.col < all_columns tab.now }
     requires place { i < tab.now.rows }

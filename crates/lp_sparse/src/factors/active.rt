@@ -47,7 +47,7 @@ fn put_rows<F: Field>(
     Ok(())
 }
 
-// Puts the numbers of a column into their rows, and gives the rows.
+// Adds the numbers of a column to their rows, and gives the list of these rows.
 fn spread<F: Field>(
     alloc: Global,
     rows: &mut [Vec<Entry<F>>],
@@ -67,14 +67,14 @@ fn spread<F: Field>(
     Ok(places)
 }
 
-// Counts rows or columns.
+// Notes how many numbers each row or each column has.
 fn count<T>(buckets: &mut Buckets, lists: &[Vec<T>]) {
     for (k, list) in lists.iter().enumerate() {
         buckets.insert(k, list.len());
     }
 }
 
-/// A whole matrix.
+/// The active part of a factorization that has taken no pivot yet: all rows and columns of the matrix.
 pub(crate) fn active_of<F: Field>(
     alloc: Global,
     matrix: &Matrix<F>,
@@ -92,7 +92,7 @@ pub(crate) fn active_of<F: Field>(
 }
 
 impl<F: Field> Active<F> {
-    // Puts the numbers of a matrix in.
+    // Adds the numbers of a matrix to the active rows and columns.
     fn put_matrix(&mut self, alloc: Global, matrix: &Matrix<F>) -> Result<(), AllocError> {
         put_rows(alloc, &mut self.rows, matrix.rows())?;
         for j in 0..matrix.columns() {
@@ -120,7 +120,7 @@ impl<F: Field> Active<F> {
         }
     }
 
-    /// Puts the numbers of a row back.
+    /// Gives a row back its numbers, which were taken out of it.
     pub(crate) fn put_row(&mut self, i: usize, numbers: Vec<Entry<F>>) {
         if let Some(row) = self.rows.get_mut(i) {
             *row = numbers;
@@ -153,7 +153,7 @@ impl<F: Field> Active<F> {
         }
     }
 
-    /// Marks the columns of the pivot's row, or takes the marks off.
+    /// Notes for each column of the pivot's row its place in that row, or takes these notes back.
     pub(crate) fn mark(&mut self, row: &[Entry<F>], is_marked: bool) {
         for (k, entry) in row.iter().enumerate() {
             let mark = if is_marked { k.wrapping_add(1) } else { 0 };
@@ -161,7 +161,7 @@ impl<F: Field> Active<F> {
         }
     }
 
-    /// The place in the pivot's row of a column that is marked.
+    /// The place in the pivot's row of a column that is noted as one of it; none for any other column.
     #[inline(always)]
     pub(crate) fn marked(&self, j: usize) -> Option<usize> {
         let mark = at(&self.marks, j);

@@ -29,7 +29,7 @@ impl Drop for Buckets {
 }
 
 impl Buckets {
-    /// No rows or columns.
+    /// Lists of rows or columns by their counts, of which none has one yet.
     pub(crate) fn new(alloc: Global) -> Self {
         Buckets {
             firsts: Vec::new(alloc),
@@ -70,7 +70,7 @@ impl Buckets {
         at(&self.counts, k)
     }
 
-    /// Puts one that is in no list into that of this count.
+    /// Adds a row or column that is in no list to the list of this count.
     pub(crate) fn insert(&mut self, k: usize, count: usize) {
         let next = match self.firsts.get(count) {
             Some(first) => *first,

@@ -34,7 +34,7 @@ impl<F: Field> Sparse<F> {
         })
     }
 
-    /// Puts 0 in place of all numbers.
+    /// Sets all numbers of the list to 0.
     pub fn clear(&mut self) {
         for k in &self.places {
             put_value(&mut self.numbers, *k, F::zero());
@@ -48,7 +48,7 @@ impl<F: Field> Sparse<F> {
         self.places.len() >= self.numbers.len()
     }
 
-    // Notes all places.
+    // Notes all places of the list as ones that may have a number other than 0.
     fn note_all(&mut self) -> Result<(), AllocError> {
         self.places.clear();
         for k in 0..self.numbers.len() {
@@ -57,7 +57,7 @@ impl<F: Field> Sparse<F> {
         Ok(())
     }
 
-    // Puts a number at a place where none is.
+    // Sets the number at a place that has none, and notes the place.
     #[inline(always)]
     fn put(&mut self, k: usize, number: F) -> Result<(), AllocError> {
         self.places.push(k)?;
@@ -95,7 +95,7 @@ impl<F: Field> Marked<F> {
         })
     }
 
-    // The marks of 64 steps.
+    // The bits that say which of 64 steps are to be gone over.
     #[inline(always)]
     fn word(&self, w: usize) -> u64 {
         match self.marks.get(w) {
@@ -104,12 +104,12 @@ impl<F: Field> Marked<F> {
         }
     }
 
-    // Whether so many are marked that all steps are gone over.
+    // Whether so many steps are to be gone over that going over all of them is as good.
     fn is_many(&self) -> bool {
         self.count.saturating_mul(MANY) > self.numbers.len()
     }
 
-    // Marks a step.
+    // Notes that a step is to be gone over.
     #[inline(always)]
     fn mark(&mut self, k: usize) {
         self.count = self.count.wrapping_add(1);
@@ -118,7 +118,7 @@ impl<F: Field> Marked<F> {
         }
     }
 
-    // Takes a multiple of a line off, and marks the steps whose numbers were 0.
+    // Subtracts a multiple of a line, and notes the steps whose numbers were 0 as ones to be gone over.
     #[inline(always)]
     fn take_off(&mut self, line: &[Entry<F>], times: F) {
         for entry in line {
@@ -132,7 +132,7 @@ impl<F: Field> Marked<F> {
         }
     }
 
-    // Puts the numbers in at their steps.
+    // Moves the numbers of a right side to the steps of their places, which are noted as ones to be gone over.
     fn put_all(&mut self, right: &mut Sparse<F>, steps: &[usize]) {
         for k in &right.places {
             let step = at(steps, *k);
@@ -142,7 +142,7 @@ impl<F: Field> Marked<F> {
         right.clear();
     }
 
-    // Takes all marks off.
+    // Notes that no step is to be gone over.
     fn clear_marks(&mut self) {
         self.count = 0;
         for word in self.marks.iter_mut() {
@@ -150,7 +150,7 @@ impl<F: Field> Marked<F> {
         }
     }
 
-    // The last step of 64 that is marked, which is not marked any more.
+    // The last of 64 steps that is to be gone over; it is not to be gone over again.
     #[inline(always)]
     fn take_last(&mut self, w: usize) -> Option<usize> {
         let word = self.marks.get_mut(w)?;
@@ -201,7 +201,7 @@ impl<F: Field> Drop for Ordered<F> {
     }
 }
 
-// Puts the step of each row or column into an empty list.
+// Writes for each row or column its step into an empty list.
 fn put_steps(steps: &mut Vec<usize>, names: &[usize]) -> Result<(), AllocError> {
     steps.resize(names.len(), 0)?;
     for (step, name) in names.iter().enumerate() {
@@ -210,7 +210,7 @@ fn put_steps(steps: &mut Vec<usize>, names: &[usize]) -> Result<(), AllocError> 
     Ok(())
 }
 
-// Puts a line's numbers into lines, by the steps of their places.
+// Adds a line whose numbers are those of another line, each at the step of its place.
 fn put_line<F: Field>(
     lines: &mut Lines<F>,
     line: &[Entry<F>],
@@ -222,7 +222,7 @@ fn put_line<F: Field>(
     lines.end()
 }
 
-// Puts lines, by the steps of their places.
+// Adds all lines of a list, with each number at the step of its place.
 fn put_lines<F: Field>(
     list: &mut Lines<F>,
     lines: &Lines<F>,
@@ -234,7 +234,7 @@ fn put_lines<F: Field>(
     Ok(())
 }
 
-// Puts the lines of these names, by the steps of their places.
+// Adds the lines of these names, with each number at the step of its place.
 fn put_named<F: Field>(
     list: &mut Lines<F>,
     lines: &Lines<F>,
@@ -303,7 +303,7 @@ pub fn order_factors<F: Field>(
     Ok(ordered)
 }
 
-// The first step of 64 that is marked, of those whose bits are in `left`, which are those after it then.
+// The first of 64 steps that is to be gone over, among those whose bits are in `left`; `left` then has the later ones.
 #[inline(always)]
 fn next_step(word: u64, left: &mut u64, w: usize) -> Option<usize> {
     let bits = word & *left;
@@ -359,7 +359,7 @@ impl<F: Field> Ordered<F> {
         }
     }
 
-    // Goes over 64 steps of the upper factor, backwards, and puts their numbers into the solution.
+    // Goes over 64 steps of the upper factor, backwards, and writes their numbers to the solution.
     fn upper_word(
         &self,
         room: &mut Marked<F>,
@@ -395,7 +395,7 @@ impl<F: Field> Ordered<F> {
         solution.note_all()
     }
 
-    // The solution of the upper factor's equations, from the steps that are marked.
+    // Solves the equations of the upper factor, over the steps that are noted to be gone over.
     fn through_upper(
         &self,
         room: &mut Marked<F>,
@@ -464,7 +464,7 @@ impl<F: Field> Ordered<F> {
         }
     }
 
-    // Goes over 64 steps of the transposed lower factor, backwards, and puts their numbers into the solution.
+    // Goes over 64 steps of the transposed lower factor, backwards, and writes their numbers to the solution.
     fn lower_turned_word(
         &self,
         room: &mut Marked<F>,
@@ -503,7 +503,7 @@ impl<F: Field> Ordered<F> {
         solution.note_all()
     }
 
-    // The solution of the transposed lower factor's equations, from the steps that are marked.
+    // Solves the equations of the transposed lower factor, over the steps that are noted to be gone over.
     fn through_lower_turned(
         &self,
         room: &mut Marked<F>,

@@ -107,7 +107,7 @@ fn take_off<F: Field>(
     has_zero
 }
 
-// Puts the numbers into a row that come into being in it.
+// Adds to a row the numbers that an elimination step makes at places where the row had none.
 fn fill_in<F: Field>(
     active: &mut Active<F>,
     i: usize,
