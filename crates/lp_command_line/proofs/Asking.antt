@@ -1,14 +1,16 @@
 -- What the words behind a command's word ask, and when they ask nothing.
 --
--- `few-generate`: fewer than three words behind `gen` ask nothing.
--- `asks-generate`: three words behind `gen` ask for a model by the seed and the counts that they give.
--- `few-serve`: no words behind `serve` ask nothing.
+-- `few-generate`: fewer than three words behind `gen` are no command.
+-- `asks-generate`: three words behind `gen` are the command with the seed and the counts that they give, if they give
+--   them.
+-- `few-serve`: the word `serve` without words behind it is no command.
 -- `first-word`: the texts of at least one word are the first one's text and those of the words behind it.
--- `few-number`: fewer than two words ask for no range of a number.
+-- `few-number`: fewer than two words are no range of one number.
 -- `first-two`: the texts of at least two words are those of the first two and of the words behind them.
--- `few-range`: no words behind `range` ask nothing.
--- `look_up-map`: looking a word up in a table whose entries are mapped by f is mapping what is found by f.
--- `asks-command`: words ask what the row of their command's word, if there is one, reads of the words behind it.
+-- `few-range`: the word `range` without words behind it is no command.
+-- `look_up-map`: looking a word up in a table whose values are changed by f finds f of the value that is found in the
+--   table.
+-- `asks-command`: words are the command that the row of the first word, if there is one, reads of the words behind it.
 -- `no-words`: no words are no command line.
 use Rattle.std.proofs.Common.{◌≡◌, ℕ, Bool, true, false, cond, ◌==◌, List, [], ◌∷◌, length, map, take, drop, get_or}
 use Rattle.std.proofs.Common.{Option, Some, None, ◌<◌, ◌≤◌, ◌-◌, le-leb, eqb-true, arith, refl, sym, ap, ◌∙◌}

@@ -1,6 +1,6 @@
 -- A word is at fault exactly where the words are no command line.
 --
--- `all_fault`: where the first word behind `range` asks for all numbers, the fault is that of the options behind it.
+-- `all_fault`: where the first word behind `range` is `all`, the fault is that of the options behind the word.
 -- `one_fault`: where it does not, the fault is that of the words for one number.
 -- `no-told_fault`: where the fault found is the definition's, there is none exactly if the words are a command line.
 use Rattle.std.proofs.Common.{◌≡◌, ℕ, Bool, true, false, ◌&&◌, not, cond, List, [], ◌∷◌, Option, Some, None}
@@ -50,7 +50,8 @@ and_false false = refl
 
 -- ---- options, their values, and plain words
 
--- one option more
+-- an option has no fault exactly where it is a new one of the command's options, and the options behind it have no
+-- fault
 no-more_fault : (names : OptionNames) (option : Word) (again : Option Word) (fault : Option Fault) (test : Bool) →
     is_none fault ≡ test →
     is_none (behind_option names option again fault) ≡ cond (is_new_option names option again) test false
@@ -114,7 +115,7 @@ module _ {A : Type 0} (usual : A) (of : Word → Option A) (switches : OptionNam
         by None is = refl
         by (Some value) is = read value is (of value)
 
--- a plain word has no fault exactly where it is right
+-- a word that is no option has no fault exactly where it is right
 no-plain_fault : (plain : Plain) (word : Word) (is_right : Bool) → is_none (plain_fault plain word is_right) ≡ is_right
 no-plain_fault plain word true = refl
 no-plain_fault plain word false = refl
@@ -152,7 +153,7 @@ run_by-some None p = refl
 run_by-some (Some k) None = refl
 run_by-some (Some k) (Some n) = refl
 
--- the words behind `run` have no fault exactly where they ask a run
+-- the words behind `run` have no fault exactly where they are a command `run`
 no-run_fault : (words : List Word) → is_none (run_fault words) ≡ is_some (asked_by words run_row)
 no-run_fault words =
     neither _ _ _ _
@@ -172,7 +173,7 @@ read-some : (text : ExactTextCommand) (style : Option Style) → is_some style �
 read-some text None = refl
 read-some text (Some style) = refl
 
--- the words behind a text command have no fault exactly where they ask that command
+-- the words behind a command on a text have no fault exactly where they are such a command
 no-text_fault : (text : ExactTextCommand) (words : List Word) → is_none (text_fault words) ≡ is_some (asked_by words (text_row text))
 no-text_fault text words =
     neither _ _ _ _ (no-option_fault (text_row text).names (text_row text).switches words) (no-form_fault words [])
@@ -184,7 +185,7 @@ no-text_fault text words =
         read-some text (form words []) ∙ ap is_some (sym (asks-text words text (form words []) e refl))
     by false e = ap is_some (sym (text-refused words text e))
 
--- the words behind a command with two widths have no fault exactly where they ask one of the two
+-- the words behind a command with `--wide` or without have no fault exactly where they are such a command
 no-wide_fault : (narrow wide : ExactTextCommand) (words : List Word) →
     is_none (wide_fault words) ≡ is_some (asked_by words (wide_row narrow wide))
 no-wide_fault narrow wide words =
@@ -213,7 +214,7 @@ module _ (x y : Bool) where
       by true = refl
       by false = refl
 
--- a range of one number is asked exactly where what is moved and the form are given
+-- a range of one number is a command exactly where the words give cost or right side, and the form of the text
 range-some : (name : Word) (moved : Option Moved) (style : Option Style) →
     ((is_some moved && true) && (true && is_some style))
     ≡ is_some (option_and_then (λ w. option_map (Read (Range w name)) style) moved)
@@ -221,7 +222,7 @@ range-some name None style = refl
 range-some name (Some w) None = refl
 range-some name (Some w) (Some style) = refl
 
--- the words for the range of one number have no fault exactly where they ask for one
+-- the words for the range of one number have no fault exactly where they are such a command
 no-number_fault : (words : List Word) → is_none (number_fault words) ≡ is_some (asked_by words number_row)
 unfolding given_in
 no-number_fault [] = refl
@@ -245,7 +246,7 @@ no-number_fault (what ∷ name ∷ words) =
         range-some name (moved_of what) (form words [])
         ∙ ap is_some (sym (asks-number what name words (what ∷ name ∷ words) refl (moved_of what) h e refl))
 
--- the words behind `range` have no fault exactly where they ask for ranges
+-- the words behind `range` have no fault exactly where they are a command `range`
 no-range_fault : (words : List Word) → is_none (range_fault words) ≡ is_some (asked_by words range_row)
 unfolding given_in
 no-range_fault [] = refl
@@ -269,7 +270,7 @@ no-option : (word : Word) (words : List Word) → are_in [] [] (word ∷ words) 
 no-option word [] = refl
 no-option word (value ∷ words) = refl
 
--- the words behind `generate` have no fault exactly where they ask for a model
+-- the words behind `gen` have no fault exactly where they are a command `gen`
 no-generate_fault : (words : List Word) → is_none (generate_fault words) ≡ is_some (asked_by words generate_row)
 unfolding given_in
 no-generate_fault [] = refl
@@ -298,7 +299,7 @@ serve_by-some (Some k) None p = refl
 serve_by-some (Some k) (Some c) None = refl
 serve_by-some (Some k) (Some c) (Some n) = refl
 
--- the words behind `serve` have no fault exactly where they ask for a server
+-- the words behind `serve` have no fault exactly where they are a command `serve`
 no-serve_fault : (words : List Word) → is_none (serve_fault words) ≡ is_some (asked_by words serve_row)
 unfolding given_in
 no-serve_fault [] = refl

@@ -34,7 +34,7 @@ generates_nothing : asked_by (codes "--help" ∷ []) (row_of command.Generate) �
 unfolding given_in
 generates_nothing = refl
 
--- `--help` alone behind `range` asks nothing
+-- the word `--help` alone behind `range` is no command
 ranges_nothing : asked_by (codes "--help" ∷ []) (row_of command.Range) ≡ None
 unfolding given_in
 ranges_nothing = refl
@@ -55,7 +55,7 @@ usage_behind word =
     by (Some command.Generate) = generates_nothing
     by (Some command.Serve) = no-address (codes "--help") [] (codes "--help" ∷ []) refl refl
 
--- words that ask for a notice are no command line
+-- words for the usage or the version are no command line
 no-command : (words : List Word) (notice : Notice) → notice_of words ≡ Some notice → command_line_of words ≡ None
 unfolding notice_of
 no-command [] notice e = absurd (none-some notice e)

@@ -6,7 +6,7 @@
 -- `options-none`: where the test of the words one by one fails, they are no options.
 -- `are-short`: where the words have no first option, they pass the test exactly if there are none.
 -- `any-bytes`: a word is one of the names as the code holds them exactly if it is one of their texts.
--- `some-copied`: copying what is behind a reference keeps whether there is something.
+-- `some-copied`: copying the value behind an optional reference keeps whether there is a value.
 use Rattle.std.proofs.Common.{◌≡◌, ℕ, ◌&&◌, ◌||◌, Bool, true, false, not, cond, ◌<◌, ◌==◌, arith}
 use Rattle.std.proofs.Common.{List, [], ◌∷◌, length, map, Option, Some, None, refl, sym, ap, ◌∙◌}
 use Rattle.std.specs.Prelude.{option_copied, is_some, option_map, option_and_then}

@@ -5,7 +5,7 @@ use Rattle.spec_program.specs.CommandLine.{Word}
 use Rattle.lp_command_line.specs.declared.notices.Notice.{Notice}
 use Rattle.lp_command_line.specs.declared.notices.Notice.TheVariants.{Usage, Version}
 
--- the notice that a word asks for
+-- the notice that a word stands for: the usage for --help, and the version for --version
 abbrev pub named : Word → Option Notice
 named word =
     if same word (codes "--help") then Some Usage else (if same word (codes "--version") then Some Version else None)

@@ -60,7 +60,7 @@ abbrev pub value_fault : OptionNames → Word → List Word → Bool → Option 
 value_fault switches name words true = None
 value_fault switches name words false = option_map (NotValue name) (value_in switches name words)
 
--- a plain word, unless something is given by it
+-- the fault of a word that should be an address, a number or a name; none where it is right
 abbrev pub plain_fault : Plain → Word → Bool → Option Fault
 plain_fault plain word true = None
 plain_fault plain word false = Some (NotPlain plain word)

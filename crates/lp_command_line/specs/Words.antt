@@ -64,7 +64,7 @@ abbrev pub planned : Option Serving → Option Address
 planned None = None
 planned (Some serving) = Some (record { address = string_bytes serving.address.now; workers = serving.workers })
 
--- the switch that asks for numbers of any width
+-- the option --wide, which has no value
 abbrev pub wide_switch : OptionNames
 wide_switch = codes "--wide" ∷ []
 

@@ -135,7 +135,7 @@ fn wide_fault(words: &[String]) -> Option<WordFault<&[u8]>>
     option_fault(words, &["--form", "--wide"], &WIDE).or(form_fault(words, &WIDE))
 }
 
-// The first fault of the words behind `range` that ask for one number.
+// The first fault of the words behind `range` for the range of one number.
 fn number_fault(words: &[String]) -> Option<WordFault<&[u8]>>
     ensures { told result ≡ faults.number_fault (map string_bytes words.now) }
 {

@@ -264,7 +264,7 @@ fn range_with<'a>(moved: Moved, name: &'a [u8], options: &[String]) -> Option<Co
     Some(CommandLine::Read(TextCommand::Range { moved, name }, style))
 }
 
-/// Whether the word asks for the ranges of all numbers of a model.
+/// Whether the word stands for the ranges of all numbers of a model.
 pub(crate) fn is_all(word: &[u8]) -> bool
     ensures { result ≡ command_lines.is_all word.now }
 {

@@ -15,7 +15,7 @@ pub struct Serving<'a> {
     pub workers: u32,
 }
 
-/// The address and the workers of the server that the words ask for. None where they are no line of `serve`.
+/// The address and the workers of the server that the words start, or `None` where they are no command `serve`.
 #[tactic(auto, unfolding(spec_program::specs::CommandLine::address_of))]
 pub fn plan(words: &[String]) -> Option<Serving<'_>>
     ensures { planned result ≡ address_of (map string_bytes words.now) }

@@ -14,7 +14,7 @@ pub enum Notice {
     Version,
 }
 
-// The notice that the word asks for, if it asks for one.
+// The notice that the word stands for: the usage or the version. None for any other word.
 fn named(word: &[u8]) -> Option<Notice>
     ensures { result ≡ asked.named word.now }
 {
@@ -27,7 +27,7 @@ fn named(word: &[u8]) -> Option<Notice>
     None
 }
 
-// The notice that the words ask for, if they ask for one.
+// The notice that the words stand for: the usage or the version. None for any other words.
 #[tactic(auto, unfolding(crate::specs::Notices::notice_of))]
 fn asked_by(words: &[String]) -> Option<Notice>
     ensures { result ≡ asked.notice_of (map string_bytes words.now) }
@@ -39,7 +39,7 @@ fn asked_by(words: &[String]) -> Option<Notice>
     }
 }
 
-/// The notice that the words ask for, if they ask for one. Such words are no command line.
+/// The notice that the words stand for: the usage or the version. Such words are no command line.
 pub fn notice_of(words: &[String]) -> Option<Notice>
     ensures notice { result ≡ asked.notice_of (map string_bytes words.now) }
     ensures none { IsSome result → command_lines.command_line_of (map string_bytes words.now) ≡ None }

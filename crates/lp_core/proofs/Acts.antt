@@ -30,7 +30,7 @@ use Rattle.lp_core.specs.Core.{ActBy, ActFits}
 
 -- ---- the stage of a session of which a step is held
 
--- a stage that the code holds as idle is idle
+-- a session that is idle in the code is idle in the definition
 stage_idle : (s : world.Stage) → shown_step s ≡ Idle → s ≡ world.Idle
 stage_idle world.Idle e = refl
 stage_idle (world.Counts shape) e = cc
@@ -40,7 +40,7 @@ stage_idle (world.Puts pending reads) e = cc
 stage_idle (world.Claims pending c reads) e = cc
 stage_idle (world.Writes pending k reads) e = cc
 
--- a stage that the code holds as one that counts for a shape is such a stage of a world
+-- a session that in the code is about to count places for a shape is so in the definition
 stage_counts : (s : world.Stage) (shape : List ℕ) → shown_step s ≡ Counts shape → s ≡ world.Counts shape
 stage_counts world.Idle shape e = cc
 stage_counts (world.Counts other) shape e = cc
@@ -50,7 +50,7 @@ stage_counts (world.Puts pending reads) shape e = cc
 stage_counts (world.Claims pending c reads) shape e = cc
 stage_counts (world.Writes pending k reads) shape e = cc
 
--- a stage that the code holds as one that sees place k is such a stage of a world
+-- a session that in the code is about to read place k for a shape is so in the definition
 stage_sees : (s : world.Stage) (shape : List ℕ) (k : ℕ) → shown_step s ≡ Sees shape k →
     (reads : _) × (s ≡ world.Sees shape k reads)
 stage_sees world.Idle shape k e = cc
@@ -61,7 +61,7 @@ stage_sees (world.Puts pending reads) shape k e = cc
 stage_sees (world.Claims pending c reads) shape k e = cc
 stage_sees (world.Writes pending j reads) shape k e = cc
 
--- a stage that the code holds as one that solves is such a stage of a world
+-- a session that in the code is about to solve is so in the definition
 stage_solving : (s : world.Stage) (found : Looked) → shown_step s ≡ Solving found →
     (reads : _) × (s ≡ world.Solving found reads)
 stage_solving world.Idle found e = cc
@@ -72,7 +72,7 @@ stage_solving (world.Puts pending reads) found e = cc
 stage_solving (world.Claims pending c reads) found e = cc
 stage_solving (world.Writes pending j reads) found e = cc
 
--- a stage that the code holds as one that puts what is pending is such a stage of a world
+-- a session that in the code is about to count places to publish words is so in the definition
 stage_puts : (s : world.Stage) (pending : Pending) → shown_step s ≡ Puts pending →
     (reads : _) × (s ≡ world.Puts pending reads)
 stage_puts world.Idle pending e = cc
@@ -83,7 +83,7 @@ stage_puts (world.Puts other reads) pending e = (reads, cc)
 stage_puts (world.Claims other c reads) pending e = cc
 stage_puts (world.Writes other j reads) pending e = cc
 
--- a stage that the code holds as one that claims a place is such a stage of a world
+-- a session that in the code is about to claim a place is so in the definition
 stage_claims : (s : world.Stage) (pending : Pending) (c : ℕ) → shown_step s ≡ Claims pending c →
     (reads : _) × (s ≡ world.Claims pending c reads)
 stage_claims world.Idle pending c e = cc
@@ -94,7 +94,7 @@ stage_claims (world.Puts other reads) pending c e = cc
 stage_claims (world.Claims other d reads) pending c e = (reads, cc)
 stage_claims (world.Writes other j reads) pending c e = cc
 
--- a stage that the code holds as one that writes a place is such a stage of a world
+-- a session that in the code is about to write a place is so in the definition
 stage_writes : (s : world.Stage) (pending : Pending) (k : ℕ) → shown_step s ≡ Writes pending k →
     (reads : _) × (s ≡ world.Writes pending k reads)
 stage_writes world.Idle pending k e = cc
@@ -107,7 +107,7 @@ stage_writes (world.Writes other j reads) pending k e = (reads, cc)
 
 -- ---- an act that is taken
 
--- an act that the stage allows, and that leaves what it may of a world's session, fits the definitions
+-- an act that is the session's next one, and leaves what it may, fits the definition
 taken : (server : Server) (me : ℕ) (old : Kept) (now : List ExactPlace) (s : Session) (a : ExactAct) (end : ExactEnd)
     (new : Kept) (next : List ExactPlace) (st : world.Stage) (left : Left) →
     s.stage ≡ st → fits_stage st a ≡ true → Leaves server me now s st a left → Keeps new left.session →

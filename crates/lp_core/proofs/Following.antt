@@ -1,6 +1,6 @@
 -- What sessions hold follows a world of the definitions, event by event.
 --
--- `follows_first`: what is held of the opening world follows no events.
+-- `follows_first`: the code's state of the opening world follows the empty list of events.
 -- `follows_on`: what follows some events follows one event more after a step of that event.
 use Rattle.std.proofs.Common.{◌≡◌, List, [], ◌∷◌, ◌++◌, length, refl, sym, ap, ◌∙◌, subst}
 use Rattle.spec_world.specs.World.{ExactEvent, ExactEnd, WorldRun, opening_world}

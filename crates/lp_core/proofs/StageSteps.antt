@@ -1,7 +1,7 @@
 -- Each act of a session fits the definitions, by the stage of the code and by what the session awaits.
 --
--- `sees_agree`: a session that reads places for a shape awaits what is found of that shape.
--- `seen_agrees`: a session that has read one place more awaits what its next stage is about.
+-- `sees_agree`: a session that reads places for a shape waits for what the look-up of that shape finds.
+-- `seen_agrees`: a session that has read one place more waits for what its next state is about.
 -- `writes_agree`: a session that writes its place awaits what becomes of those words.
 -- `pending_formed`: words of which a session awaits what becomes are well formed.
 use Rattle.std.proofs.Common.{◌≡◌, ℕ, ◌-◌, Bool, true, false, nat_eq, cond, List, [], ◌∷◌, ◌++◌, length, Option, Some}
@@ -56,24 +56,24 @@ has_pending (WhatBecameOf pending) words step a = record {
   step_so = refl;
 }
 
--- where a stage is equal to one with pending words that agrees with what is awaited, its step has these words pending
+-- a session that is in a state of publishing words, and waits for how that ends, takes a step with these words
 at_stage : (st put : Stage) (aw : Awaits) (words : Words) (step : Pending → Step) → st ≡ put → Agrees st aw →
     (Agrees put aw → HasPending aw words step (step_of put aw)) → HasPending aw words step (step_of st aw)
 at_stage st put aw words step e a here =
     subst (λ t. HasPending aw words step (step_of t aw)) (sym e) (here (subst (λ t. Agrees t aw) e a))
 
--- where the session's stage puts words, its step puts them, and they are pending
+-- a session that is about to count places for words takes this step with the words that it waits to publish
 puts_step : (st : Stage) (aw : Awaits) (words : Words) → st ≡ stage.Puts words → Agrees st aw →
     HasPending aw words Puts (step_of st aw)
 puts_step st aw words e a = at_stage st (stage.Puts words) aw words Puts e a (has_pending aw words Puts)
 
--- where the session's stage claims a place for words, its step claims it, and they are pending
+-- a session that is about to claim a place for words takes this step with the words that it waits to publish
 claims_step : (st : Stage) (aw : Awaits) (words : Words) (c : ℕ) → st ≡ stage.Claims words c → Agrees st aw →
     HasPending aw words (λ p. Claims p c) (step_of st aw)
 claims_step st aw words c e a =
     at_stage st (stage.Claims words c) aw words (λ p. Claims p c) e a (has_pending aw words (λ p. Claims p c))
 
--- where the session's stage writes words at a place, its step writes it, and they are pending
+-- a session that is about to write words at a place takes this step with the words that it waits to publish
 writes_step : (st : Stage) (aw : Awaits) (words : Words) (k : ℕ) → st ≡ stage.Writes words k → Agrees st aw →
     HasPending aw words (λ p. Writes p k) (step_of st aw)
 writes_step st aw words k e a =
@@ -216,7 +216,7 @@ pub sees_agree : (st : Stage) (aw : Awaits) (shape : Words) (k : ℕ) → st ≡
     aw ≡ WhatIsFound shape
 sees_agree st aw shape k e a = subst (λ t. Agrees t aw) e a
 
--- a stage in which a session looks for a shape below place n fits a session that waits for what is found of that shape
+-- the state of looking up a shape below place n fits a session that waits for what the look-up of that shape finds
 looking_agrees : (shape : Words) (n : ℕ) (st : Stage) (aw : Awaits) → aw ≡ WhatIsFound shape →
     st ≡ looking_at shape n → Agrees st aw
 looking_agrees shape n st aw e is = subst (λ t. Agrees t aw) (sym is) (by (nat_eq n 0))

@@ -25,7 +25,7 @@ pub data Step : Type 0 where
   Claims : (pending : Pending) → (count : ℕ) → Step
   Writes : (pending : Pending) → (place : ℕ) → Step
 
--- the stage of a session without what it read
+-- how far a session is with its request, without what it read for it
 abbrev pub shown_step : world.Stage → Step
 shown_step world.Idle = Idle
 shown_step (world.Counts shape) = Counts shape
@@ -37,13 +37,13 @@ shown_step (world.Writes pending k reads) = Writes pending k
 
 -- ---- one session
 
--- what is pending, if anything is
+-- the step with the words that are to be published, if the session waits for that; else the session is idle
 abbrev pub with_pending : Awaits → (Pending → Step) → Step
 with_pending Nothing step = Idle
 with_pending (WhatIsFound shape) step = Idle
 with_pending (WhatBecameOf pending) step = step pending
 
--- where a session is in its request, by the code's stage and by what the session awaits
+-- how far a session is with its request, by the code's state and by what the session waits for
 abbrev pub step_of : Stage → Awaits → Step
 step_of stage.Idle awaits = Idle
 step_of (stage.Counts shape) awaits = Counts shape
@@ -59,7 +59,7 @@ IsPending Nothing words = ⊥
 IsPending (WhatIsFound shape) words = ⊥
 IsPending (WhatBecameOf pending) words = (pending.words ≡ words) × IsWellFormed words
 
--- the session awaits what its stage is about
+-- the session waits for what the code's state of its request is about
 abbrev pub Agrees : Stage → Awaits → Type 0
 Agrees stage.Idle awaits = awaits ≡ Nothing
 Agrees (stage.Counts shape) awaits = awaits ≡ WhatIsFound shape
@@ -90,7 +90,7 @@ IsBelow limit step = Unit {0}
 
 -- ---- places
 
--- those that are done have well-formed words
+-- the words of each place that is done are well formed
 abbrev pub AreFormed : List ExactPlace → Type 0
 AreFormed now = (k : ℕ) (words : Words) → place_at now k ≡ Some (place.Done words) → IsWellFormed words
 
@@ -105,7 +105,7 @@ pub record Acted (server : Server) (me : ℕ) (now : List ExactPlace) (s : Sessi
   pub places_so : next ≡ left.places
   pub end_so : end ≡ end_of me left.replied
 
--- the act is taken if the session's stage allows it; if not, nothing changes and nothing is replied
+-- the act is taken if it is the session's next one; if not, nothing changes and nothing is replied
 abbrev pub ActBy : Bool → Server → ℕ → Kept → List ExactPlace → Session → ExactAct → ExactEnd → Kept →
     List ExactPlace → Type 0
 ActBy true server me old now s a end new next = Acted server me now s a end new next
@@ -140,7 +140,8 @@ abbrev pub StepFits : Core → ExactEvent → ExactEnd → Core → Type 0
 StepFits old event end new =
     (w : World) → Shows old w → (next : World) × WorldStep (server_of old) w event end next × Shows new next
 
--- it is held of a world to which these events lead from the opening world, in which each session runs alone
+-- the code's state is that of a world to which these events lead from the opening world, in which each session runs
+-- alone
 pub record Follows (core : Core) (events : List ExactEvent) : Type 0 where
   pub w : World
   pub run : WorldRun (server_of core) opening_world events w

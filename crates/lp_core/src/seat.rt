@@ -166,7 +166,7 @@ impl Seat {
         }
     }
 
-    // The session reads the place, if its look has come down to that one.
+    // The session reads the place, if this is the next place of its look-up.
     fn see(&mut self, me: u32, limit: u32, places: &[Place<BasisWords>], at: u32) -> StepEnd<Reply>
         requires formed { AreFormed places.now }
         ensures fits { ActFits limit me self.old places.now (acts.See at) result self.new places.now }

@@ -32,7 +32,7 @@ impl Model for World {
 }
 
 impl World {
-    /// So many sessions that hold nothing, and so many places, of which none is claimed.
+    /// A world of `sessions` sessions that hold nothing and `places` places, of which none is claimed.
     pub fn new(alloc: Global, sessions: u32, places: u32) -> Result<Self, AllocError>
         ensures size { IfOk result (λ w. (length w.held ≡ sessions) × (w.limit ≡ places)) }
         ensures opening { IfOk result (λ w. Follows w []) }
@@ -60,7 +60,8 @@ impl World {
         self.act(alloc, event)
     }
 
-    // The step itself, for one world of the definitions. `step` shows what follows for all events so far.
+    // Takes one event, as it is for any one world of the definitions. `step` shows what follows for all events that
+    // came before.
     fn act(&mut self, alloc: Global, event: Event<Ask>) -> StepEnd<Reply>
         ensures fits { StepFits self.old event result self.new }
         ensures size { (length self.new.held ≡ length self.old.held) × (self.new.limit ≡ self.old.limit) }

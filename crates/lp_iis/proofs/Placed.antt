@@ -2,7 +2,8 @@
 --
 -- `item_holds`: what holds of all sides holds of one that is read.
 -- `take_item`: the first i + 1 sides are the first i and the side that is read at i.
--- `filter_more`: one more side, put behind where it passes the test, gives those of i + 1 sides that pass.
+-- `filter_more`: appending side k, if it passes the test, to the sides that pass among the first k gives those among
+--   the first k + 1.
 use Rattle.std.proofs.Common.{◌≡◌, ℕ, ◌+◌, ◌<◌, Bool, true, false, cond, List, [], ◌∷◌, ◌++◌, take, All, length}
 use Rattle.std.proofs.Common.{Option, Some, None, refl, sym, ap, ◌∙◌, subst, get_or}
 use Rattle.std.specs.Prelude.{slice_get}

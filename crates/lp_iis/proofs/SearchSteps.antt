@@ -1,12 +1,12 @@
 -- The steps of a search: one side after the other is left out or kept.
 --
--- `ahead_first`: before the first step no side is kept, all are ahead, and all together clash.
--- `ahead_at`: the sides ahead from i on are the side that is read at i and those behind it.
+-- `ahead_first`: before the first step no side is kept, all are still to be tried, and all together are infeasible.
+-- `ahead_at`: the sides that are still to be tried from i on are the side at i and those behind it.
 -- `begun`: where the model's cold solve ends infeasible, the search begins with its certificate.
 -- `begun_else`: where the search ends at once with the end of the model's cold solve, that end is one of a cold solve,
 --   and not infeasible.
 -- `certified_all`: the kept sides with an accepted certificate and their points are certified.
--- `ahead_same`: a way with equal kept sides, points and clashing sides is still ahead.
+-- `ahead_same`: the invariant of the search holds of equal kept sides, points and infeasible sides.
 use Rattle.std.proofs.Common.{◌≡◌, ℕ, ◌+◌, ◌<◌, List, length, drop, [], ◌∷◌, ◌++◌, All, Some, Ok}
 use Rattle.std.proofs.Common.{inl, inr, refl, sym, ap, ◌∙◌, subst}
 use Rattle.std.proofs.lemmas.List.{append_assoc, drop_more}

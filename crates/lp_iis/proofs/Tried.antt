@@ -2,7 +2,7 @@
 --
 -- `ends_cold`: a solve without a starting basis ends as a cold solve may.
 -- `shown_infeasible`: a model with an accepted certificate of infeasibility is infeasible.
--- `tried`: what is read of the end of a cold solve is true of the model.
+-- `tried`: what the end of a cold solve shows is true of the model.
 use Rattle.std.proofs.Common.{◌≡◌, ℕ, List, None, Some, Ok, sym, ap, ◌∙◌, subst}
 use Rattle.spec_exact.specs.Fraction.{ℚ}
 use Rattle.spec_exact.specs.Narrow.{number_limit}

@@ -22,7 +22,7 @@ abbrev pub entry_by : Option ℕ → ℚ → List (ℕ × ℚ)
 entry_by None v = []
 entry_by (Some k) v = (k, v) ∷ []
 
--- the same side with the number that its row has by these places
+-- a side with the new number of its row, where `places` gives each row its new number
 abbrev pub placed : List (Option ℕ) → Side → Side
 placed places s = record {
   row = s.row;

@@ -26,7 +26,8 @@ trial_of (Ended known certificate basis pivots) = trial_by certificate
 trial_of (Past p) = Stopped (Past p)
 trial_of Spent = Stopped Spent
 
--- what is read of a solve is true of the model
+-- what a cold solve shows is true of the model: a certificate of infeasibility, a feasible point, or an end that gives
+-- up
 abbrev pub IsTried : ℕ → Model → Trial → Type 0
 IsTried budget m (Infeasible cert) = ShowsInfeasible m cert
 IsTried budget m (Point z) = IsFeasible m z

@@ -25,7 +25,8 @@ use Rattle.lp_iis.specs.declared.finding.Left.TheVariants.{Kept, Stopped}
 
 -- ---- one look
 
--- what is seen of these sides alone
+-- what a solve with some sides alone shows is true: a few of them are infeasible together, a point meets all, or it
+-- gave up
 abbrev pub IsSeen : ℕ → Model → List Side → Look → Type 0
 IsSeen budget m sides (Clash few) = IsClash m sides few
 IsSeen budget m sides (Point z) = IsFeasible (only m sides) z

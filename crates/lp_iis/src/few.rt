@@ -54,7 +54,8 @@ fn push_used(
     push_if(is_used, side, few)
 }
 
-// Those of the sides that are used, where `places` gives each row its number among those that stay.
+// The sides of the list that are among the used ones, where `places` gives each row its number among the rows that
+// stay.
 fn used_of(
     alloc: Global,
     used: &Sides,
@@ -74,7 +75,7 @@ fn used_of(
     Ok(few)
 }
 
-/// Those of the sides that the certificate uses, in the same order.
+/// The sides of the list that the certificate uses, in the same order.
 pub(crate) fn used_among(
     alloc: Global,
     model: &Model,

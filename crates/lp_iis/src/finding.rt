@@ -48,7 +48,7 @@ fn behind(sides: &Sides, i: usize) -> &[Side]
     &sides.as_slice()[i + 1..]
 }
 
-// Keeps the side, and the point that meets the others.
+// Keeps the side, and the point that meets all sides but this one.
 fn keep(side: Side, point: Fracs, kept: &mut Sides, points: &mut Points) -> Result<(), AllocError>
     ensures kept { OnOk result (kept.new ≡ kept.old ++ side ∷ []) }
     ensures points { OnOk result (points.new ≡ points.old ++ point ∷ []) }
@@ -58,7 +58,8 @@ fn keep(side: Side, point: Fracs, kept: &mut Sides, points: &mut Points) -> Resu
     Ok(())
 }
 
-// Leaves out each side, in order, without which the others and the kept ones are infeasible, and keeps it else.
+// Leaves out each side, in order, without which the later and the kept sides are infeasible together, and else keeps
+// it.
 fn filter(alloc: Global, model: &Model, budget: u64, sides: &Sides) -> Result<Left, AllocError>
     requires model { IsUsualModel model.now }
     requires present { All (IsSide model.now) sides.now }

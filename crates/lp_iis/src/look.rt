@@ -67,7 +67,7 @@ fn look_at(alloc: Global, model: &Model, budget: u64, sides: &Sides) -> Result<L
     look
 }
 
-// One list of the first sides and the others behind them.
+// A list of the first sides and, behind them, of `others`.
 fn joined(alloc: Global, first: &Sides, others: &[Side]) -> Result<Sides, AllocError>
     ensures { IfOk result (λ sides. sides ≡ first.now ++ others.now) }
 {
@@ -76,7 +76,7 @@ fn joined(alloc: Global, first: &Sides, others: &[Side]) -> Result<Sides, AllocE
     Ok(sides)
 }
 
-// Looks at the kept sides and the others together, by a solve.
+// Solves the model with the kept sides and `others` alone, and tells whether they are infeasible together.
 fn look_at_both(
     alloc: Global,
     model: &Model,
@@ -95,15 +95,15 @@ fn look_at_both(
     look
 }
 
-// What is seen where the few that are known to clash are still there.
+// Tells that the few sides that are known to be infeasible together still are.
 fn as_before(alloc: Global, clash: &Sides) -> Result<Look, AllocError>
     ensures { IfOk result (λ look. look ≡ looks.Clash clash.now) }
 {
     Ok(Look::Clash(Sides::from_slice(alloc, clash.as_slice())?))
 }
 
-/// What is seen of the kept sides and those behind one: by a solve only if the side is one of the few that are known to
-/// clash. Else these few are among the others, and clash as before.
+/// Tells whether the kept sides and those behind one side are infeasible together. It solves only if the side is one of
+/// the few that are known to be so. Else these few are among the rest.
 pub(crate) fn look_without(
     alloc: Global,
     model: &Model,

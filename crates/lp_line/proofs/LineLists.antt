@@ -6,7 +6,7 @@ use Rattle.std.proofs.lemmas.Grind.{flat_map-append}
 use Rattle.std.proofs.lemmas.Option.{slice_get_within, get_or_from_slice_get}
 use Rattle.spec_server.specs.Output.{ended_lines}
 
--- a line more
+-- the bytes of the first `at + 1` lines are those of the first `at` lines, the next line and a line feed
 pub ended_lines_more : (lines : List (List ℕ)) (at : ℕ) (line : List ℕ) → slice_get lines at ≡ Some line →
     ended_lines (take (at + 1) lines) ≡ ended_lines (take at lines) ++ (line ++ 10 ∷ [])
 unfolding ended_lines

@@ -38,7 +38,7 @@ behind name value others rest e = by (two_by_two others) refl e
     by None is e = absurd (let h = e in cc)
     by (Some more) is e = (more, is, let same : rest ≡ (name, value) ∷ more = cc in same)
 
--- a pair in front of what is read, behind pairs, is what is read behind the pairs and this one
+-- reading a pair and then more pairs, behind some pairs, is reading more pairs behind these and the pair
 one_more : (answer : Reads Pairs) (pairs : Pairs) (p : Name × ℚ) →
     ((answer >>= λ rest. Ok (p ∷ rest)) >>= λ more. Ok (pairs ++ more)) ≡
     (answer >>= λ more. Ok ((pairs ++ p ∷ []) ++ more))
@@ -72,7 +72,7 @@ module _ {all : Words} {name value : List ℕ} {others : List (List ℕ)} {pairs
 
 -- ---- a list that has two words at least
 
--- words of at least two are the first, the second and the rest
+-- a list of at least two words is the first word, the second word and the words behind them
 two_first : (words : List (List ℕ)) (name value : List ℕ) → 2 ≤ length words → name ≡ slice_index_or words 0 name →
     value ≡ slice_index_or words 1 value → words ≡ name ∷ value ∷ take (length words - 2) (drop 2 words)
 two_first [] name value l n v = absurd (omega arith)

@@ -1,6 +1,7 @@
 -- Where each line of a script leads, between two commands or in the body of one.
 --
--- `behind_step`: what lines say of a script is what the first line asks, or else what the others say of the next state.
+-- `behind_step`: the result of lines of a script is the request that the first line completes, or else the result of
+--   the later lines from the next state.
 -- `skips`: a line between two commands that is no command leaves the script between them.
 -- `commands`: a command's line completes its request, or begins its body.
 -- `text_goes_on`: a line of a model's text that is not its last one leads on in the text.
@@ -109,7 +110,7 @@ lines_read reader = reader.lines
 abbrev lines_of_certificate : NarrowRead → ℕ
 lines_of_certificate reader = reader.lines
 
--- where what is held fits the lines of a text, what is held behind one line more fits all of them
+-- where the state of a text's reader fits lines, the state after one line more fits these lines and that one
 text_passes : (form : Style) (lines : List (Line (List ℕ))) (held next : Body TextRead TextSaid)
     (here : Line (List ℕ)) →
     TextFits form lines held → PassesTo TextSays lines_read held here next → TextFits form (lines ++ here ∷ []) next
@@ -118,14 +119,14 @@ text_passes form lines held next here fits p = λ more answer h.
     more)
     ∙ fits (here ∷ more) answer (p.behind more answer h)
 
--- where what is held fits the lines of a text, what the end of the input says is the verdict on them
+-- where the state of a text's reader fits lines, the result at the end of the input is the verdict on these lines
 text_closes : (form : Style) (lines : List (Line (List ℕ))) (held : Body TextRead TextSaid) (what : TextSaid) →
     TextFits form lines held → BodySays TextSays held (line.End ∷ []) (Some what) →
     verdict_said (text.judge usual_limits form start 1 lines) ≡ what
 text_closes form lines held what fits h =
     same_said _ what (sym (text_judged form start 0 lines) ∙ fits (line.End ∷ []) (Some what) h)
 
--- where what is held fits the lines of a certificate, what is held behind one line more fits all of them
+-- where the state of a certificate's reader fits lines, the state after one line more fits these lines and that one
 certificate_passes : (lines : List (Line (List ℕ)))
     (held next : Body NarrowRead CertificateSaid) (here : Line (List ℕ)) →
     CertificateFits lines held → PassesTo CertificateSays lines_of_certificate held here next →
@@ -134,7 +135,8 @@ certificate_passes lines held next here fits p = λ more answer h.
     ap (said_by certificate_step (record { raw = None; lines = 0 })) (append_assoc lines (here ∷ []) more)
     ∙ fits (here ∷ more) answer (p.behind more answer h)
 
--- where what is held fits the lines of a certificate, what the end of the input says is their judgement
+-- where the state of a certificate's reader fits lines, the result at the end of the input is the verdict on these
+-- lines
 certificate_closes : (lines : List (Line (List ℕ))) (held : Body NarrowRead CertificateSaid)
     (what : CertificateSaid) →
     CertificateFits lines held → BodySays CertificateSays held (line.End ∷ []) (Some what) →
@@ -172,7 +174,7 @@ record GoesTo (from : ScriptStage) (here : Line (List ℕ)) (next : ScriptStage)
   fits : (addressing : Addressing) (pending : Pending) → Fits addressing pending from →
       Fits addressing (pending_after_line addressing pending here) next
 
--- a line that completes no request and fits the next stage leads a script on to that stage
+-- a line that completes no request leads a script on to the state of the reading that fits the script behind the line
 leads_on : (from next : ScriptStage) (here : Line (List ℕ)) → here ≢ line.End → GoesTo from here next →
     lines_in next ≤ lines_in from + 1 →
     LeadsOn ScriptSays lines_in from here next
@@ -184,8 +186,8 @@ leads_on from next here no_end g few = record {
   no_end = no_end;
 }
 
--- Where a line makes just one request in each script that fits a stage, it leads from the stage to a step that says the
--- request.
+-- where a line completes one request in each script that fits a state of the reading, it leads from this state to the
+-- request
 leads_to_ask : (from : ScriptStage) (here : Line (List ℕ)) (asked : Asked ExactAsk) (what : NextAsk) → here ≢ line.End →
     ((addressing : Addressing) (pending : Pending) → Fits addressing pending from →
     asks_of_line addressing pending here ≡ asked ∷ []) →
@@ -195,7 +197,7 @@ leads_to_ask from here asked what no_end asks is = λ more addressing pending fi
 
 -- ---- a line between two commands
 
--- what holds between two commands holds of each script that fits the stage between two commands
+-- a property of the state between two commands holds of each script that fits the reading between two commands
 fit_between : (P : Addressing → Pending → Type 0) (own : Addressing) → P own Between →
     (addressing : Addressing) (pending : Pending) → Fits addressing pending (stage.Between own) → P addressing pending
 fit_between P own h addressing Between f = subst (λ (a : Addressing). P a Between) f h
@@ -229,7 +231,7 @@ commands own here addressed (step.Says what) no_end e b =
 
 -- ---- a line in the text of a model
 
--- what holds in a text of any lines that fit what is held holds of each script that fits the stage of the text
+-- a property of each text whose lines fit a reader's state holds of each script that fits the reading in that text
 fit_text : (P : Addressing → Pending → Type 0) (own : ℕ) (held : Body TextRead TextSaid) →
     ((addressing : Addressing) (form : Style) (lines : List (Line (List ℕ))) → TextFits form lines held →
     P addressing (Text own form lines)) →
@@ -282,7 +284,7 @@ text_ends own held next here said ask what no_end e p closed asks is =
 
 -- ---- a line in a certificate
 
--- what holds in a certificate of lines that fit what is held holds of each script that fits its stage
+-- a property of each certificate whose lines fit a reader's state holds of each script that fits the reading in it
 fit_certificate : (P : Addressing → Pending →
     Type 0) (own : ℕ) (held : Body NarrowRead CertificateSaid) →
     ((addressing : Addressing) (lines : List (Line (List ℕ))) → CertificateFits lines held →

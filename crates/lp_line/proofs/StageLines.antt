@@ -89,7 +89,7 @@ no_certificate_behind_end : (raw : Option certificate.ExactRaw) (next : certific
 unfolding step_by
 no_certificate_behind_end raw next e = cc
 
--- what is said of a certificate's line and of more lines is what its reader makes of the line
+-- the result of a certificate's line and of more lines is what its reader makes of the line, and then of the later ones
 by_judgement : (old : NarrowRead) (line : Line (List ℕ)) (more : List (Line (List ℕ)))
     (outcome : certificate.Outcome) →
     certificate.step old.raw line ≡ outcome →

@@ -10,7 +10,7 @@ abbrev pub BodySays : {T R : Type 0} → (T → List (Line (List ℕ)) → Optio
 BodySays Say (Reading stage) lines answer = Say stage lines answer
 BodySays Say (Read what) lines answer = answer ≡ Some what
 
--- how many lines of a body were read so far, 0 where the reading has ended
+-- how many lines of a body were read; 0 where the reading has ended with a result
 abbrev pub count_in : {T R : Type 0} → (T → ℕ) → Body T R → ℕ
 count_in count (Reading stage) = count stage
 count_in count (Read what) = 0

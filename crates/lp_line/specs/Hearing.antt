@@ -22,7 +22,7 @@ pub record LeadsOn {T R : Type 0} (Say : T → List (Line (List ℕ)) → Option
   pub counts : count next ≤ count stage + 1
   pub no_end : here ≢ line.End
 
--- a line leads to the next stage, or something is said at it, whatever follows
+-- a line leads to a further state of the reading, or to a result, whatever lines follow
 abbrev pub Leads : {T R : Type 0} → (T → List (Line (List ℕ)) → Option R → Type 0) → (T → ℕ) → T → Line (List ℕ) →
     Step T R → Type 0
 Leads Say count stage here (step.On next) = LeadsOn Say count stage here next

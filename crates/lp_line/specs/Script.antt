@@ -28,11 +28,11 @@ use Rattle.lp_line.specs.Stages.{NarrowRead, TextSays, CertificateSaid, certific
 
 -- ---- the lines of a script, one by one, with all lines of a body
 
--- the next ask, or that none comes before the input ends, or what halts the reading
+-- the next request, or none where the input ends before one, or why the reading halted
 abbrev pub NextAsk : Type 0
 NextAsk = Result (Option (Asked ExactAsk)) Halt
 
--- what is taken where the input ends
+-- the answer of the reading where the input ends: none between two commands, and else why it halts
 abbrev pub taken_at : Ending → NextAsk
 taken_at Ended = Ok None
 taken_at Cut = Err halts.Cut
@@ -57,19 +57,19 @@ script_step addressing pending line.Over =
 
 -- ---- what is held of a body says of its further lines what a script says
 
--- a body that was read so far says of its further lines what all its lines say
+-- the state of a text's reader fits these lines: it gives for further lines the result of all lines
 abbrev pub TextFits : Style → List (Line (List ℕ)) → Body text_reading.TextRead TextSaid → Type 0
 TextFits form lines body =
     (more : List (Line (List ℕ))) (answer : Option TextSaid) → BodySays TextSays body more answer →
     said_by (text_step usual_limits form) (record { state = start; lines = 0 }) (lines ++ more) ≡ answer
 
--- a certificate that was read so far says of its further lines what all its lines say
+-- the state of a certificate's reader fits these lines: it gives for further lines the result of all lines
 abbrev pub CertificateFits : List (Line (List ℕ)) → Body NarrowRead CertificateSaid → Type 0
 CertificateFits lines body =
     (more : List (Line (List ℕ))) (answer : Option CertificateSaid) → BodySays CertificateSays body more answer →
     said_by certificate_step (record { raw = None; lines = 0 }) (lines ++ more) ≡ answer
 
--- the code's stage is the definition's state of the script
+-- the code's state of reading a script is that of the definition, with the same session and lines
 abbrev pub Fits : Addressing → Pending → ScriptStage → Type 0
 Fits addressing Between (stage.Between own) = own ≡ addressing
 Fits addressing (Text session form lines) (stage.Text own body) = (own ≡ session) × TextFits form lines body

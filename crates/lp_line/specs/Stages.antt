@@ -16,11 +16,11 @@ abbrev pub TextSaysWithin : SizeLimits → text.TextRead → List (Line (List �
 TextSaysWithin limits reader lines answer =
     said_by (text_step limits reader.style) (record { state = reader.state; lines = reader.lines }) lines ≡ answer
 
--- within the usual limits
+-- what the lines of a text lead to from a state of its reader on, within the limits of a usual model
 abbrev pub TextSays : text.TextRead → List (Line (List ℕ)) → Option TextSaid → Type 0
 TextSays reader lines answer = TextSaysWithin usual_limits reader lines answer
 
--- within the large limits
+-- what the lines of a text lead to from a state of its reader on, within the limits of a large model
 abbrev pub LargeSays : text.TextRead → List (Line (List ℕ)) → Option TextSaid → Type 0
 LargeSays reader lines answer = TextSaysWithin large_limits reader lines answer
 

@@ -42,7 +42,8 @@ pub record TakesEnd (addressing : Addressing) (before after : Option (List ℕ))
   pub none : TakesNone addressing before after old (Ok line.End)
   pub ends : ending_by (pending_after addressing Between none.passed) ≡ ending
 
--- what the reading of the next ask answers: the request, or that the input ended before one, or what halts the reading
+-- what reading the next request answers: the request, or none where the input ended before one, or why the reading
+-- halted
 abbrev pub TakesNext : Addressing → Option (List ℕ) → Option (List ℕ) → LinesState → LinesState →
     NextAsk → Type 0
 TakesNext addressing before after old new (Ok (Some asked)) = TakesAsk addressing before after old new asked

@@ -55,7 +55,7 @@ pub(crate) fn push_past(alloc: Global, past: &Past, to: &mut Bytes) -> Result<()
     lp_numtext::write(alloc, past.b, to)
 }
 
-/// Adds to a text what is known of a model.
+/// Adds to a text the line of an answer: optimal with its value, infeasible, or unbounded.
 pub(crate) fn push_known(alloc: Global, known: &Known, to: &mut Bytes) -> Result<(), AllocError>
     ensures { OnOk result (to.new ≡ to.old ++ output.known_text known.now) }
 {

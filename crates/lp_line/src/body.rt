@@ -42,7 +42,7 @@ pub(crate) fn pass<T: Stage>(
     }
 }
 
-// What is said of an input that ends at this stage.
+// The result of an input that ends in this state of the reading.
 fn said_at_end<T: Stage>(alloc: Global, stage: T) -> Result<T::Said, AllocError>
     requires { T.count stage < 2 ^ 32 - 1 }
     ensures { IfOk result (λ said. T.says stage (line.End ∷ []) (Some said)) }
@@ -53,7 +53,7 @@ fn said_at_end<T: Stage>(alloc: Global, stage: T) -> Result<T::Said, AllocError>
     }
 }
 
-/// What is said of a body that has no more lines.
+/// The result of a body that has no more lines.
 pub(crate) fn close<T: Stage>(alloc: Global, body: Body<T, T::Said>) -> Result<T::Said, AllocError>
     requires { count_in T.count body < 2 ^ 32 - 1 }
     ensures { IfOk result (λ said. BodySays T.says body (line.End ∷ []) (Some said)) }

@@ -43,7 +43,7 @@ fn budget(count: &[u8]) -> Command
     }
 }
 
-// The command that asks for an edit, or a bad one where the words are no edit of this kind.
+// The command for an edit, or a bad command where the words are no edit of this kind.
 fn change(alloc: Global, which: EditWord, words: &[Bytes]) -> Result<Command, AllocError>
     ensures { IfOk result (λ command. command ≡ commands.change_by (edit_by which words.now)) }
 {

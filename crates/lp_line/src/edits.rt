@@ -332,7 +332,7 @@ fn set_sense(words: &[Bytes]) -> Result<Edit, EditStop>
     Ok(Edit::SetSense(sense_in(sense)?))
 }
 
-/// The edit that the words after a command word ask for: by their count, and then from left to right.
+/// The edit that the words after a command word give: by their count, and then from left to right.
 pub(crate) fn edit_by(alloc: Global, which: EditWord, words: &[Bytes]) -> Result<Edit, EditStop>
     ensures { GivesWords (edit_command.edit_by which words.now) result }
 {

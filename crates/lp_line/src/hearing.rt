@@ -25,7 +25,7 @@ pub trait Stage: Drop {
     // of how many lines it is
     ghost count: { Self → ℕ };
 
-    /// Takes the next line.
+    /// Takes the next line of an input, and gives the further state of the reading or the result.
     fn advance(self, alloc: Global, line: &Line) -> Result<Step<Self, Self::Said>, AllocError>
         requires { count self < 2 ^ 32 - 1 }
         ensures { IfOk result (Leads says count self line.now) };

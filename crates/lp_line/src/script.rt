@@ -64,7 +64,7 @@ impl Stage for ScriptStage {
     }
 }
 
-// How a script ends that the input's end finds at this stage: it is cut off in a body.
+// How a script ends whose input ends in this state of the reading: between two commands, or cut off in a body.
 fn end_of(stage: &ScriptStage) -> Result<Option<Asked>, Halt>
     ensures { IsEndOf stage.now result }
 {
@@ -108,7 +108,7 @@ fn begin(alloc: Global, addressed: spec_server::Asked<Command>) -> ScriptStep
     }
 }
 
-// The step that says this ask of this session.
+// The step of the reading that gives this request of this session.
 fn asked(session: u32, ask: Ask) -> ScriptStep
     ensures { result ≡ step.Says (Ok (Some (record { session = session; ask = ask }))) }
 {

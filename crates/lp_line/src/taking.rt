@@ -11,7 +11,8 @@ use lp_base::{Lines, Source};
 use spec_server::Addressing;
 use std::alloc::Global;
 
-/// Reads the lines up to the one that completes the next ask. There is none where the input ends between two commands.
+/// Reads the lines up to the one that completes the next request. There is none where the input ends between two
+/// commands.
 pub fn take<S: Source>(
     alloc: Global,
     addressing: Addressing,

@@ -20,7 +20,7 @@ type ExactEnd = spec_solve::ExactEnd<Ratio, Ratios, Basis>;
 
 type ExactAnswer = spec_solve::ExactAnswer<Ratio, Ratios, Basis>;
 
-/// Adds to a text what is known of a model, with a value of any width.
+/// Adds to a text the line of an answer, whose optimal value may have any width.
 pub fn push_wide_known(alloc: Global, known: &Known, to: &mut Bytes) -> Result<(), AllocError>
     ensures { OnOk result (to.new ≡ to.old ++ wide.wide_known_text known.now) }
 {

@@ -1,13 +1,16 @@
 -- What goes next, by the first of the rules that finds something or is refused.
 --
 -- `none_found`: an option that is `Some` of no value is `None`.
--- `refused₁`: a refusal of the rule on clashes is what is chosen.
--- `refused₂`: where no bounds clash, a refusal of the rule on rows without entries is what is chosen.
--- `refused₃`: where these two find nothing, a refusal of the rule on rows with one entry is what is chosen.
+-- `refused₁`: where the rule on clashes is refused an operation, choosing a reduction is refused it.
+-- `refused₂`: where no bounds clash and the rule on rows without entries is refused an operation, choosing a reduction
+--   is refused it.
+-- `refused₃`: where neither of these rules finds anything and that on rows with one entry is refused, choosing a
+--   reduction is refused.
 -- `found₁`: what the rule on clashes finds is chosen.
 -- `found₂`: where no bounds clash, what the rule on rows without entries finds is chosen.
 -- `found₃`: where these two find nothing, what the rule on rows with one entry finds is chosen.
--- `found₄`: where the three rules find nothing, the rule on fixed columns chooses, or the reductions are done.
+-- `found₄`: where the rules on clashes, on empty rows and on rows of one entry find nothing, the rule on fixed columns
+--   chooses, or the reductions are done.
 use Rattle.std.proofs.Common.{◌≡◌, Option, Some, None, Ok, Err, refl}
 use Rattle.spec_exact.specs.Fraction.{ℚ}
 use Rattle.spec_exact.specs.declared.past.Past.{Past}

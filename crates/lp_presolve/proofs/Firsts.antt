@@ -1,6 +1,7 @@
 -- What a loop finds first, among rows or columns in order.
 --
--- `first_stops`: where nothing is found before k and the run at k is refused, the whole search is refused so.
+-- `first_stops`: where nothing is found before k and the run at k is refused an operation, the whole search is refused
+--   it.
 -- `first_found`: where nothing is found before k and something at k, that is what the whole search finds.
 -- `more_stays`: a row with more than one entry among the first k columns has more than one among more columns.
 use Rattle.std.proofs.Common.{◌≡◌, ℕ, zero, suc, ◌<◌, ◌≤◌, Bool, true, false, cond, Option, Some, None, Ok, Err, ap, ◌∙◌, subst, arith}
@@ -29,7 +30,7 @@ first_found {A} k (suc n) f a l h e =
     (ap (λ o. o >>= λ found. unless found (f k)) h ∙ e))
     (λ o. ap (λ r. r >>= λ found. unless found (f n)) (first_found k n f a (omega (arith, l, o)) h e)) (cases_eq k n)
 
--- more than one entry so far is more than one in all
+-- a row with more than one entry in the first k columns has more than one in the first k + 1
 more_and_next : (m : Model) (i k : ℕ) → in_row_below m i k ≡ More → in_row_below m i (suc k) ≡ More
 more_and_next m i k e = by (eq_ℚ (coefficient m i k) 0ℚ)
   where

@@ -3,9 +3,10 @@
 -- `carried_empty`: over a row without entries the certificate is carried as `over_empty` says.
 -- `carried_fixed`: over a fixed column the certificate is carried as `over_fixed` says.
 -- `carried_single`: over a row with one entry the certificate is carried by the kept step as by the model.
--- `parted`: kept steps that are not none are a first step and the others, each of its reduction.
+-- `parted`: a list of kept reductions that is not empty is the first one and those behind it, each with its data.
 -- `carried_stops`: a stop over the other reductions stops the carrying over all of them.
--- `carried_on`: the certificate over the others, carried over the first one, is carried over all of them.
+-- `carried_on`: carrying a certificate over the later reductions and then over the first one carries it over all of
+--   them.
 use Rattle.std.proofs.Common.{◌≡◌, ℕ, ◌-◌, ◌≤◌, Option, Some, Result, Ok, Err}
 use Rattle.std.proofs.Common.{List, [], ◌∷◌, length, take, drop, get_or, refl, sym, ap, ◌∙◌, subst, arith}
 use Rattle.std.proofs.Math.Seq.{take-length}
@@ -41,7 +42,7 @@ pub carried_fixed : (s : Step) (r : ExactReduction) (m : Model) (j : ℕ) (v : �
 unfolding carried_over
 carried_fixed s r m j v c back h g k = rw (reduction_is s r (Fixed j v) m h g, k) refl
 
--- over a row of one entry, what is kept of the reduction carries as the definition does
+-- over a row of one entry, the data that is kept of the reduction carries a certificate as the definition does
 over_same : (m : Model) (i j : ℕ) (a : ℚ) (l u : Option ℚ) (c : ExactCertificate) →
     over_step (Some number_limit) (kept (Single i j a l u) m) i j a l u c ≡ over_single (Some number_limit) m i j a l u
     c
@@ -76,7 +77,7 @@ pub record Parted (first : Step) (rest : List Step) (rs : List (ExactReduction �
   pub first_is : first ≡ kept reduction model
   pub rest_is : rest ≡ all_kept others
 
--- all but one of a list with a first element, taken behind it, are the rest of the list
+-- a list behind its first element is all of the list but that element
 rest_of : (x : Step) (xs : List Step) → take (length (x ∷ xs) - 1) xs ≡ xs
 rest_of x xs = (let z : length (x ∷ xs) - 1 ≡ length xs = omega arith in ap (λ n. take n xs) z) ∙ take-length xs
 

@@ -5,7 +5,7 @@
 -- `reached_end`: where as many reductions were made as may be, the reductions are done.
 -- `reached_halt`: where a rule ends the reductions, they end so for the first model.
 -- `reached_refused`: where the choice is refused an operation, the reductions of the first model are.
--- `reached_stop`: where a chosen reduction stops, the reductions of the first model stop so.
+-- `reached_stop`: where a chosen reduction is refused an operation, the reductions of the first model are refused it.
 use Rattle.std.proofs.Common.{◌≡◌, ℕ, suc, ◌+◌, ◌-◌, ◌<◌, Some, Ok, Err, List, [], ◌∷◌, ◌++◌, refl, sym, ap, ◌∙◌}
 use Rattle.std.proofs.Common.{subst, arith}
 use Rattle.std.proofs.lemmas.List.{append_assoc, append-nil, map-append}
@@ -88,7 +88,7 @@ reached_more m n x before now next k r h e f g = record {
       ∙ two_behind h.done ((r, x) ∷ []) (reduced_within (Some number_limit) rest x);
 }
 
--- where what is chosen is to halt, the reductions end at the model with this halt
+-- where choosing a reduction gives the end of the reductions, they end at this model
 halts : (n : Model) (halt : Halt) (k : ℕ) → chosen (Some number_limit) n ≡ Ok (choice.Halt halt) →
     reduced_within (Some number_limit) (suc k) n ≡ Ok (record { steps = []; last = n; halt = halt })
 halts n halt k e = rw e refl
@@ -103,7 +103,7 @@ stops_then : (n : Model) (r : ExactReduction) (p : past.Past ℚ) (k : ℕ) → 
     after (Some number_limit) n r ≡ Err p → reduced_within (Some number_limit) (suc k) n ≡ Err p
 stops_then n r p k e f = rw (e, f) refl
 
--- what is left, one more
+-- where k is below `left`, k and one more than what is then left are together `left`
 left_is : (k left : ℕ) → k < left → k + suc (left - suc k) ≡ left
 left_is k left l = omega (arith, l)
 
@@ -116,7 +116,7 @@ at_left m n before now k left h l =
     (left - suc k)) n))
     (left_is k left l) (h.leads (suc (left - suc k)))
 
--- nothing goes behind them
+-- where the reductions ended at n, those from the first model on lead to n, and nothing is appended to their data
 closed : (m n : Model) (before now : List Step) (halt : Halt) (left : ℕ) (done : List (ExactReduction × Model)) →
     now ≡ before ++ all_kept done →
     reduced_within (Some number_limit) left m ≡ all_behind done (Ok (record { steps = []; last = n; halt = halt })) →

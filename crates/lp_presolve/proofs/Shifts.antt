@@ -1,6 +1,6 @@
 -- The right sides less what a fixed column adds to the rows, one row after the other.
 --
--- `term_is`: the right side that is computed of the model so far is that of the first model.
+-- `term_is`: the right side of row i that is computed of the partly changed model is that of the first model.
 -- `shift_stops`: where a right side is refused, the shift of all right sides is.
 -- `fixed_refused₁`: where the shift is refused, so is the reduction of a fixed column.
 -- `fixed_refused₂`: where the new offset is refused, so is the reduction of a fixed column.
@@ -29,7 +29,7 @@ term m j v i = less_product (Some number_limit) (coefficient m i j) v (row m i).
 abbrev pub move : Model → ℕ → ℚ → ℕ → Model → Run Model
 move m j v i n = less_product (Some number_limit) (coefficient m i j) v (row m i).rhs >>= λ b. Ok (with_rhs n i b)
 
--- where the rows from i on are as they were, what is computed for the right side of row i is the same
+-- where the rows from i on are as they were, the right side that is computed for row i is the same
 term_same : (m x : Model) (j i : ℕ) (v : ℚ) → Behind m i x → term x j v i ≡ term m j v i
 term_same m x j i v h =
     ap₂

@@ -24,7 +24,7 @@ column_entries (Empty i) m = []
 column_entries (Single i j a lower upper) m = (column m j).entries
 column_entries (Fixed j v) m = []
 
--- what is kept of a reduction and the model that it leads to
+-- the data of a reduction that carrying a certificate over it needs, with the size of the model that it leads to
 abbrev pub kept : ExactReduction → Model → Step
 kept r m =
     record {
@@ -35,6 +35,6 @@ kept r m =
       entries = column_entries r m;
     }
 
--- what is kept of all reductions
+-- the data of all reductions that carrying a certificate over them needs
 abbrev pub all_kept : List (ExactReduction × Model) → List Step
 all_kept steps = map (λ s. kept s.0 s.1) steps

@@ -17,7 +17,7 @@ Tells run (Err (Cause c)) = ⊥
 Tells run (Err (Past p)) = run ≡ Err p
 Tells run (Err NoMemory) = Unit {0}
 
--- the run gives the model and the end, and its reductions are put behind those before
+-- the reductions give this model and this end, and their data is appended to the list
 abbrev pub LeadsTo : Run Reductions → Model → List Step → List Step → Halt → Type 0
 LeadsTo run m before after halt =
     (steps : List (ExactReduction × Model)) × (run ≡ Ok (record { steps = steps; last = m; halt = halt }))

@@ -44,7 +44,7 @@ pub record Led (m last : Model) (kept : List Step) (halt : Halt) : Type 0 where
 abbrev pub Falls : Model → ℕ → ExactWhy → Type 0
 Falls m budget why = (p : ExactPresolved) → IsPlain m budget why p → IsPresolved m budget p
 
--- what is found may be ended with; or the model is to be solved as it is; or memory was wanting
+-- presolving ended with an answer that is allowed; or the model is to be solved as it is; or memory ran out
 abbrev pub Tries : {C : Type 0} → Model → ℕ → Result ExactPresolved (Stop C) → Type 0
 Tries m budget (Ok p) = IsPresolved m budget p
 Tries m budget (Err (Cause c)) = Falls m budget why.Spent

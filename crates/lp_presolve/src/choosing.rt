@@ -115,14 +115,14 @@ fn given(
     })))
 }
 
-// Whether one of these bounds is too far from 0.
+// Whether one of two bounds is given and its absolute value is 10^20 or more.
 fn are_far(least: &Option<Frac>, most: &Option<Frac>) -> bool
     ensures { result ≡ choose.is_far least.now || choose.is_far most.now }
 {
     if is_far(least) { true } else { is_far(most) }
 }
 
-// Row `row` goes as by `given`, unless one of its bounds is too far from 0.
+// Row `row` becomes bounds of its column as by `given`, unless one of them would be 10^20 or more in absolute value.
 fn near(
     model: &Model,
     row: u32,

@@ -31,7 +31,7 @@ fn copied_column(alloc: Global, column: &Column) -> Result<Column, AllocError>
     })
 }
 
-// Copies of all rows.
+// A list with a copy of each row of the model.
 fn copied_rows(alloc: Global, model: &Model) -> Result<Vec<Row>, AllocError>
     ensures { IfOk result (λ rows. rows.items ≡ model.now.rows) }
 {
@@ -42,7 +42,7 @@ fn copied_rows(alloc: Global, model: &Model) -> Result<Vec<Row>, AllocError>
     Ok(rows)
 }
 
-// Copies of all columns.
+// A list with a copy of each column of the model.
 fn copied_columns(alloc: Global, model: &Model) -> Result<Vec<Column>, AllocError>
     ensures { IfOk result (λ columns. columns.items ≡ model.now.columns) }
 {

@@ -13,7 +13,7 @@ use lp_solve::{End, solve};
 use spec_presolve::Halt;
 use std::alloc::{AllocError, Global};
 
-// The certificate that the model is infeasible, where the reductions ended for that.
+// The certificate that the model is infeasible, where the reductions ended because they found that; else none.
 fn halted(alloc: Global, model: &Model, halt: Halt) -> Result<Option<Certificate>, AllocError>
     ensures { IfOk result (λ certificate. certificate ≡ carry.halted model.now halt) }
 {

@@ -22,7 +22,7 @@ use thiserror::Error;
 #[error("the budget of pivots and flips is spent")]
 pub(crate) struct Spent;
 
-// Makes the reduction that was chosen for the model, and puts it behind the steps so far.
+// Makes the reduction that was chosen for the model, and appends its data to `steps`.
 fn go_on(
     alloc: Global,
     model: &mut Model,
@@ -41,8 +41,8 @@ fn go_on(
     Ok(())
 }
 
-/// Makes the model smaller by at most `left` reductions, and puts them behind those of `steps`. What is left of the
-/// model after a refusal is of no use.
+/// Makes the model smaller by at most `left` reductions, and appends their data to `steps`. After a refusal the model
+/// is of no more use.
 pub(crate) fn reduce(
     alloc: Global,
     model: &mut Model,
