@@ -1,6 +1,6 @@
 -- The ranges that are read off the start from a basis.
 --
--- `moved_entry`: a column that asks for an end as the cost at position p moves has an entry there that is not 0.
+-- `moved_entry`: a column that limits the range of the cost at position p has an entry there that is not 0.
 -- `suits`: the tableau of a basis that keeps a model has the model's size, and each basic column has a position.
 use Rattle.std.proofs.Common.{◌≡◌, ◌≢◌, ℕ, ◌+◌, ◌<◌, List, length, Option, Some, None, Result, Ok, Err, Bool}
 use Rattle.std.proofs.Common.{true, false, not, ◌||◌, IfOk, refl, sym, ap, ◌∙◌, subst}
@@ -67,7 +67,7 @@ pub suits : (m : Model) (start : Start) → ((f : Form) × (basis : List Status)
 suits m start (f, basis, from) t e =
     suited (Some number_limit) m f basis t from.formed from.keeps (from.is_start ∙ ap (refused_as stops.Past) e)
 
--- what is read off the start is what the start from the basis gives
+-- a range that is computed from the start is the range that starting from the basis gives
 refused_on : (run : Tableau → Run (Range ℚ)) (start : Start) →
     (refused_as stops.Past start >>= λ t. refused_as stops.Past (run t)) ≡ refused_as stops.Past (start >>= run)
 refused_on run (Ok t) = refl

@@ -24,7 +24,7 @@ Start = Run Tableau
 abbrev pub IsKept : Form → List Status → Type 0
 IsKept f basis = (m : Model) × (form_of (Some number_limit) m ≡ Ok f) × Keeps m basis
 
--- this is the start from the basis
+-- `start` is what starting from the basis gives: its tableau, or why there is none
 abbrev pub IsStart : Form → List Status → Start → Type 0
 IsStart f basis start = start_from (Some number_limit) f basis ≡ refused_as stop.Past start
 

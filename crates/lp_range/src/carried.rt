@@ -71,7 +71,7 @@ fn carried(
     bounded(rhs, value, entry, upper, !falls, ends)
 }
 
-// The ends with those that column `k` asks for, if it is basic and moves with the nonbasic logical `s`.
+// The ends, with those that column `k` gives if it is basic and moves with the nonbasic logical column `s`.
 fn carried_if(tab: &Tableau, rhs: Frac, s: u32, k: u32, ends: Ends) -> Result<Ends, Past>
     requires logical { s < all_columns tab.now }
     requires column { k < all_columns tab.now }

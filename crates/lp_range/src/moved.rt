@@ -13,7 +13,7 @@ use lp_model::Sense;
 use lp_simplex::dual::position_of;
 use lp_tableau::{Pivot, Tableau, is_fixed, is_zero};
 
-// The ends that a column of this status asks for, whose reduced cost is 0 where the cost is `v`.
+// The ends, with the end `v`, at which the reduced cost of a column of this status is 0.
 fn ends_by(status: Status, falls: bool, v: Frac, ends: Ends) -> Result<Ends, Past>
     ensures { result ≡ rule.ends_by (Some number_limit) status falls v ends }
 {
@@ -58,7 +58,7 @@ fn own(tab: &Tableau, sense: Sense, cost: Frac, col: u32) -> Result<Ends, Past>
     ends_by(status, falls(sense, neg(one())), v, no_ends())
 }
 
-// Whether a column asks for an end where the cost of the basic column at the position moves.
+// Whether a column limits the range of the cost of the basic column at the position.
 fn is_moved(tab: &Tableau, at: Pivot) -> bool
     requires place { at.position < tab.now.rows }
     requires column { at.column < all_columns tab.now }
@@ -83,7 +83,7 @@ fn moved(tab: &Tableau, sense: Sense, cost: Frac, at: Pivot, ends: Ends) -> Resu
     ends_by(tab.status(k), falls(sense, entry), v, ends)
 }
 
-// The ends with those that a column asks for, if it does.
+// The ends, with the end that a column gives, if it limits the range.
 fn moved_if(tab: &Tableau, sense: Sense, cost: Frac, at: Pivot, ends: Ends) -> Result<Ends, Past>
     requires place { at.position < tab.now.rows }
     requires column { at.column < all_columns tab.now }

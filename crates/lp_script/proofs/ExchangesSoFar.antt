@@ -2,7 +2,8 @@
 --
 -- `asks_more`: the requests of more lines come after those of the lines before, where no request is half read between
 --   them.
--- `pending_more`: what is half read after more lines depends on these alone, where nothing was half read before them.
+-- `pending_more`: which body is unfinished after more lines depends on these alone, where no body was unfinished before
+--   them.
 use Rattle.std.proofs.Common.{◌≡◌, ℕ, List, [], ◌++◌, map, ap, sym, ◌∙◌, append-nil, refl, subst}
 use Rattle.spec_text.specs.declared.line.Line.{Line}
 use Rattle.spec_board.specs.Places.{ExactPlace, Logged, Plays}

@@ -126,7 +126,7 @@ module _ (n : ℕ) where
 
 -- ---- lists from the end
 
--- what is filtered of a reversed list is what is filtered of the list, reversed
+-- filtering a reversed list gives the filtered list, reversed
 filter_reverse : {X : Type 0} (p : X → Bool) (xs : List X) → filter p (reverse xs) ≡ reverse (filter p xs)
 filter_reverse p [] = refl
 filter_reverse p (x ∷ xs) =

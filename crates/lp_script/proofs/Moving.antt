@@ -41,7 +41,7 @@ ended_asks read = refl
 
 -- ---- what was written
 
--- a prefix of the output of exchanges is one of the output of these and others
+-- a prefix of the output of exchanges is a prefix of the output of these exchanges and more
 front_of : (written : List ℕ) (exchanges others : List Exchange) → IsPrefixOf written (script_out exchanges) →
     IsPrefixOf written (script_out (exchanges ++ others))
 front_of written exchanges others front = (

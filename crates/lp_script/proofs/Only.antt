@@ -2,11 +2,10 @@
 --
 -- `only_first`: the first pass of a board is its only one.
 -- `stands_at`: each place below the number of publications was published, with as many words as a basis.
--- `owns_all`: a neat view owns as many places as it published.
--- `all_published`: if a view owns just the places below n, it published n times.
+-- `owns_all`: a neat pass owns as many places as it published.
+-- `all_published`: a pass that owns just the places below n published n times.
 -- `look_rests`: a look publishes nothing, and leaves the publications in order.
--- `rests_own`: a view that owns as many places as it published still does so later, where it published nothing in
---   between.
+-- `rests_own`: a pass that owns as many places as it published still does later, where it published nothing since.
 use Rattle.std.proofs.Common.{◌≡◌, ℕ, ◌+◌, ◌<◌, ◌≤◌, List, [], ◌∷◌, ◌++◌, length, get_or, refl, sym, ap, ap₂, ◌∙◌}
 use Rattle.std.proofs.Common.{subst, ⊎_elim, inl, inr, arith, length-append}
 use Rattle.std.proofs.lemmas.Bool.{cases_lt}
@@ -27,7 +26,7 @@ use Rattle.lp_script.specs.Only.{published_words, AreInOrder, IsOnly}
 
 -- ---- the first pass of a board is the only one
 
--- the view of the only pass of a new board is consistent
+-- what the only pass of a new board knows is consistent
 first_consistent : (places : ℕ) → Consistent (first_view places)
 first_consistent places = record {
   neat = record { published = refl; stands = tt };

@@ -48,7 +48,7 @@ module _ (shape : Words) where
 
 -- ---- a put writes its words
 
--- where a put is of all words of a basis, each place that it publishes has all words
+-- where all words of a basis are published, each place that the reads publish has all words
 put_sized : (places : ℕ) (words : Words) (put : Put) (reads : List ExactRead) → length words ≡ basis_words →
     PutReads places words put reads → Each IsSized reads
 put_sized places words (Published k) reads sized p = subst (Each IsSized) (sym p.1) (tt, (tt, (sized, tt)))

@@ -1,7 +1,7 @@
 -- What the only pass of a board reads of a put, and that places which are all done answer it.
 --
--- `put_reads`: a put adds to the reads of a view those of its outcome, and no others.
--- `put_places`: a put leaves the number of places as it is.
+-- `put_reads`: publishing adds to the reads of a pass those of its outcome, and nothing else.
+-- `put_places`: publishing leaves the number of places that a pass knows.
 use Rattle.std.proofs.Common.{◌≡◌, ℕ, ◌<◌, Some, List, [], ◌∷◌, ◌++◌, length, refl, sym, ap, ◌∙◌, subst}
 use Rattle.std.proofs.lemmas.List.{length-map}
 use Rattle.spec_board.specs.declared.place.Place.TheVariants as place

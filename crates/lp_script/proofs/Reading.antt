@@ -2,7 +2,7 @@
 --
 -- `reading_start`: before anything was read, no lines and no requests were.
 -- `reads_nothing`: reading nothing is reading some lines.
--- `takes_as`: a next ask that is taken with one outcome is taken with an equal one.
+-- `takes_as`: where reading the next request has an outcome, it has any equal outcome.
 -- `ends_early`: a reading that runs out of memory has read some lines.
 use Rattle.std.proofs.Common.{◌≡◌, ◌≢◌, ℕ, ◌≤◌, List, [], ◌∷◌, ◌++◌, Option, Ok, Err, refl, sym, ap, ◌∙◌, inl}
 use Rattle.std.proofs.Common.{⊎_elim, append-nil, Result, subst}

@@ -1,7 +1,7 @@
 -- What is written of the replies of many workers, and what the run is then.
 --
 -- `unanswered`: a run that has only read lines has moved these bytes, and has had no exchange.
--- `reads_some_of`: a script that was read to some end was read as far as some lines.
+-- `reads_some_of`: where a script was read to any end, some lines of it were read.
 -- `one-more-read`: a list that is read item by item is its first items mapped, also after one item more.
 use Rattle.std.proofs.Common.{◌≡◌, ◌≢◌, ℕ, ◌<◌, ◌+◌, List, [], ◌∷◌, ◌++◌, length}
 use Rattle.std.proofs.Common.{map, take, drop, get_or, min, Option, Result, Ok, Err, refl}
@@ -123,7 +123,7 @@ unanswered workers places taken some =
     moves_in_part [] [] (λ session. opening) [] (record { asks = refl; runs = λ session. refl; played = refl }) some.0
     [] (Appends-nil taken) ([], refl) some.1
 
--- lines read in part, with little read beyond them, are part of what is read
+-- where lines and little beyond them were read, a part of the input was read
 reads_part : {before after : Option (List ℕ)} {lines : List (Line (List ℕ))} (front : ReadsFront before after lines) →
     ReadsLittleMore front.read lines → ReadsPart before after lines
 reads_part {before} {after} {lines} front near = record {

@@ -19,12 +19,12 @@ use Rattle.spec_server.proofs.Simply.{wide_due_held}
 no_solve : (replied : ExactReply) (next : State) (m : Model) → Replies replied next ≡ Solves m → ⊥
 no_solve replied next m e = cc
 
--- what is due after an edit's answer is never a solve
+-- what a session does for an edit of its model, made or refused, is never a solve
 edit_solves_nothing : (state : State) (m : Model) (answer : OrFault Model) → edit_due state answer ≡ Solves m → ⊥
 edit_solves_nothing state m (Ok n) e = no_solve _ _ m e
 edit_solves_nothing state m (Err why) e = no_solve _ _ m e
 
--- what is due after a change of the held model is never a solve
+-- what a session does for an edit, with a model or without, is never a solve
 change_solves_nothing : (state : State) (m : Model) (held : Option Model) (e : ExactEdit) →
     change_due state held e ≡ Solves m → ⊥
 change_solves_nothing state m None e h = no_solve _ _ m h

@@ -1,7 +1,7 @@
 -- A script's run, ask by ask, in the order of the script.
 --
 -- `start`: before anything was read, sessions that have just opened are in a turn of no lines.
--- `takes_as`: a next ask that is taken with one outcome is taken with an equal one.
+-- `takes_as`: where reading the next request has an outcome, it has any equal outcome.
 use Rattle.std.proofs.Common.{◌≡◌, ℕ, ◌⊎◌, zero, suc, List, [], ◌∷◌, ◌++◌, replicate, Ok, Err}
 use Rattle.std.proofs.Common.{ap, sym, ◌∙◌, append_assoc, append-nil, refl, inl, subst, ⊎_elim, Option}
 use Rattle.std.specs.Prelude.{slice_index_or}

@@ -31,7 +31,7 @@ opening_with places =
 abbrev pub state_at : List State → ℕ → State
 state_at sessions session = slice_index_or sessions session opening
 
--- the session that is asked takes a step, for which the places answer what it reads, and the others stay
+-- the session of the request takes a step, for which the places answer what it reads; every other session stays
 pub record Steps (old new : Together) (asked : Asked ExactAsk) (reply : ExactReply) : Type 0 where
   pub step : SharesStep (state_at old.states asked.session) asked.ask old.sharing reply
       (state_at new.states asked.session) new.sharing

@@ -6,7 +6,7 @@ use Rattle.spec_server.specs.Exchanges.{Exchange}
 use Rattle.spec_serve.specs.Workers.{asks_of_worker, exchanges_of_worker}
 use Rattle.lp_script.specs.declared.part.Part.{Part}
 
--- each of so many parts holds its own of the requests, the last one first
+-- each part holds its own requests of the list, the last one first
 abbrev pub AreDealt : ℕ → List (Asked ExactAsk) → List Part → Type 0
 AreDealt n asks parts =
     (i : ℕ) (d : Part) → i < n →
@@ -20,7 +20,7 @@ AreHeld n exchanges parts =
     (slice_index_or parts i d).replies.items
     ≡ reverse (map (λ (x : Exchange). x.reply) (exchanges_of_worker n i exchanges))
 
--- these are exchanges of requests of these sessions, and each part holds its own replies
+-- the exchanges are of requests of these sessions, and each part holds the replies of its own ones
 pub record HoldReplies (n : ℕ) (sessions : List ℕ) (parts : List Part) (exchanges : List Exchange) : Type 0 where
   pub sessions_are : map (λ (x : Exchange). x.session) exchanges ≡ sessions
   pub held : AreHeld n exchanges parts

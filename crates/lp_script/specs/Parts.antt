@@ -18,7 +18,7 @@ use Rattle.lp_workers.specs.declared.hiring.Worker.{Worker}
 use Rattle.lp_script.specs.Answer.{states_of, state_at, AreAtRest}
 use Rattle.lp_script.specs.declared.part.Part.{Part}
 
--- Before its turn: its sessions are as they open, and it has room for the replies to its requests.
+-- A part before its turn: its sessions are as they open, and it has room for the replies to its requests.
 pub record IsOpen (part : Part) : Type 0 where
   pub sessions : part.sessions.items ≡ replicate 65 (at_rest opening)
   pub solves : length part.solves.items ≡ 65
@@ -26,8 +26,8 @@ pub record IsOpen (part : Part) : Type 0 where
   pub room : vec_len part.replies + vec_len part.asks ≤ vec_capacity part.replies
   pub numbered : All (λ (asked : Asked ExactAsk). asked.session ≤ 64) part.asks.items
 
--- Its pass is one of the board's, with one of the 64 parts; each of its notes was so, and is later than those before.
--- Its sessions are in the middle of no request.
+-- A worker whose pass is one of the board's, with one of the 64 parts. Each read of the pass was true when it was
+-- noted, later than those before. No session of the worker is in the middle of a request.
 pub record IsHired (board : Board) (w : Worker Part) : Type 0 where
   pub of_board : w.pass.board ≡ id_of board
   pub places : w.pass.view.places ≡ board.places
@@ -39,8 +39,8 @@ pub record IsHired (board : Board) (w : Worker Part) : Type 0 where
   pub counted : length w.job.solves.items ≡ 65
   pub at_rest : AreAtRest w.job.sessions.items
 
--- There were exchanges of these requests, the first one first, with these replies: the sessions ran alone in them, from
--- their opening, and the pass with this view read what they read.
+-- There were exchanges of these requests, in order, with these replies. The sessions ran alone in them, from their
+-- opening, and the pass that knows `view` read what they read.
 pub record HaveHad (asks : List (Asked ExactAsk)) (replies : List ExactReply) (view : View) (all : List Standing) :
     Type 0 where
   pub exchanges : List Exchange
@@ -62,7 +62,7 @@ pub record IsServing (board : Board) (asks : List (Asked ExactAsk)) (w : Worker 
   pub room : vec_len w.job.replies + vec_len w.job.asks ≤ vec_capacity w.job.replies
   pub sessions : All (λ (asked : Asked ExactAsk). asked.session ≤ 64) w.job.asks.items
 
--- after its turn: it has had the requests that it held, of which the last one in the list stood first
+-- a part after its turn: it has answered the requests that it held, of which the last one in the list came first
 abbrev pub HasServed : Board → Worker Part → Worker Part → Type 0
 HasServed board old new = IsServing board (reverse old.job.asks.items) new
 

@@ -9,6 +9,6 @@ use Rattle.spec_server.specs.Output.{reply_lines}
 abbrev pub lines_of_reply : ℕ × ExactReply → List ℕ
 lines_of_reply pair = reply_lines Numbered pair.0 pair.1
 
--- the replies to asks of these sessions, one after the other
+-- the lines of the replies to requests of these sessions, one after the other
 abbrev pub replies_out : List ℕ → List ExactReply → List ℕ
 replies_out sessions replies = flat_map lines_of_reply (zip sessions replies)

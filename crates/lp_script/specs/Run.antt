@@ -15,8 +15,7 @@ use Rattle.lp_line.specs.declared.halt.Halt.{Halt}
 use Rattle.lp_line.specs.declared.halt.Halt.TheVariants as halts
 use Rattle.spec_server.specs.Streams.{Streams}
 
--- these are the requests of the lines that end among the bytes; or all requests of the script, where the input has
--- ended
+-- the requests of the lines that end among the bytes; or all requests of the script, where the input has ended
 abbrev pub AreAsked : Option (List ℕ) → List ℕ → List (Asked ExactAsk) → Type 0
 AreAsked after read asks =
     (asks ≡ ended_asks_of Numbered read) ⊎ ((asks ≡ (script_of Numbered read).asks) × IsAtEnd after)

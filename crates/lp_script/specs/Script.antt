@@ -11,7 +11,7 @@ use Rattle.lp_line.specs.declared.halt.Halt.{Halt}
 use Rattle.lp_line.specs.declared.halt.Halt.TheVariants as halts
 use Rattle.lp_script.specs.declared.script.Script.{Script}
 
--- all lines were read, and the script ends so
+-- all lines of a script were read, and it ends with this ending
 pub record ReadsToEnd (before after : Option (List ℕ)) (lines : List (Line (List ℕ))) (ending : Ending) : Type 0 where
   pub all : ReadsAll before after lines
   pub ends : ending_by (pending_after Numbered Between lines) ≡ ending
@@ -25,7 +25,7 @@ ReadsTo before after lines (Err halts.Read) = ReadsToFault before after lines
 ReadsTo before after lines (Err halts.Write) = ⊥
 ReadsTo before after lines (Err halts.NoMemory) = ⊥
 
--- these are the requests of the lines that were read
+-- the requests of the lines that were read, and why the reading ended
 pub record IsRead (before after : Option (List ℕ)) (asks : List (Asked ExactAsk)) (end : Result (Unit {0}) Halt) :
     Type 0 where
   pub lines : List (Line (List ℕ))

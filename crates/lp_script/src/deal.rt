@@ -8,7 +8,7 @@ use crate::part::Part;
 use lp_line::{Asked, Reply};
 use std::alloc::{AllocError, Global};
 
-/// So many parts without asks.
+/// A list of `workers` parts without requests.
 pub(crate) fn open_parts(alloc: Global, workers: u32) -> Result<Vec<Part>, AllocError>
     ensures len { IfOk result (λ parts. vec_len parts ≡ workers) }
     ensures idle { IfOk result (λ parts. All (λ part. part.asks.items ≡ []) parts.items) }

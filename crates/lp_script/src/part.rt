@@ -37,7 +37,7 @@ fn tell<R: Wait, G: Gate>(rt: &R, gate: &G, asked: &Asked, solves: &mut u64)
 }
 
 impl Part {
-    /// A part without asks, whose sessions are as they open.
+    /// A part without requests, whose sessions are as they open.
     pub(crate) fn new(alloc: Global) -> Result<Self, AllocError>
         ensures opened { IfOk result IsOpen }
         ensures idle { IfOk result (λ part. part.asks.items ≡ []) }

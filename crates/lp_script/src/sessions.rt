@@ -69,7 +69,8 @@ impl Sessions {
         Ok(Sessions { all, board, pass })
     }
 
-    /// Asks a session, and writes its reply. What it reads of the places is as the others left them.
+    /// Lets a session answer a request, and writes its reply. The session reads the places as the other sessions left
+    /// them.
     pub(crate) fn answer<K: Sink>(
         &mut self,
         alloc: Global,

@@ -1,6 +1,6 @@
 -- The service of a connection, ask by ask.
 --
--- `served_nothing`: a connection on which memory ran out before it was read is served so.
+-- `served_nothing`: a connection on which memory ran out before it was read is served without an exchange.
 -- `start`: before anything was read, a new session is in a turn of no lines.
 use Rattle.std.proofs.Common.{◌≡◌, ℕ, ◌⊎◌, List, [], ◌∷◌, ◌++◌, map, true, false, Option, Ok, Err}
 use Rattle.std.proofs.Common.{ap, sym, ◌∙◌, append_assoc, append-nil, refl, inl, inr, subst, ⊎_elim}
@@ -45,7 +45,7 @@ use Rattle.lp_serve.proofs.LinkSteps.{exchange_of, step_by, steps_more, steps_ru
 
 -- ---- lines after those that end between two commands
 
--- where lines of a connection lead between two commands, more lines ask what they ask alone
+-- where lines of a connection end between two commands, more lines have the requests that they have alone
 asks_more : (lines more : List (Line (List ℕ))) → pending_after Alone Between lines ≡ Between →
     asks_of_lines (lines ++ more) ≡ asks_of_lines lines ++ asks_of_lines more
 asks_more lines more between =
@@ -70,7 +70,7 @@ whole_front xs = ([], append-nil (link_out xs))
 
 -- ---- what the service is
 
--- these are the first requests, and all
+-- the requests of a script are a prefix of themselves
 all_first : (asks : List (Asked ExactAsk)) (ending : Ending) (s : Script) →
     s ≡ record { asks = asks; ending = ending } → AreFirstOf asks s.asks
 all_first asks ending s is = ([], ap (λ (r : Script). r.asks) is ∙ sym (append-nil asks))

@@ -2,7 +2,7 @@
 --
 -- `none_noted`: a pass that notes nothing notes on.
 -- `noted_on`: a pass that notes on twice notes on.
--- `noted_all`: all that a pass has noted since it had noted nothing was so at its moment.
+-- `noted_all`: all reads that a pass has noted since it had noted none were true when it noted them.
 use Rattle.std.proofs.Common.{◌≡◌, [], refl, sym, subst}
 use Rattle.basis_board.specs.Known.{Known}
 use Rattle.basis_board.specs.Moments.{NotesMore, WereTrue}

@@ -18,14 +18,14 @@ use Rattle.lp_session.specs.Boarding.{StepCalls}
 
 -- ---- the steps of a session
 
--- one step, by calls of the pass that had this view and has that one
+-- one step of a session, by calls of a pass that knew v before them and knows w after them
 pub record StepBy (v : View) (old : State) (x : Exchange) (w : View) (new : State) : Type 0 where
   pub step : AloneStep v.places old x.ask x.reads x.reply new
   pub reads : reads_of w ≡ reads_of v ++ x.reads
   pub calls : StepCalls v w
   pub consistent : Consistent v → Consistent w
 
--- one after the other
+-- the steps of a session, one for each exchange, one after the other
 abbrev pub Steps : View → State → List Exchange → View → State → Type 0
 Steps v old [] w new = (w ≡ v) × (new ≡ old)
 Steps v old (x ∷ xs) w new =
@@ -47,7 +47,7 @@ TakesAsk before after old new (Err end.Write) = ⊥
 
 -- ---- the whole service
 
--- the exchanges of the link, whose steps the pass made and no others
+-- the exchanges of a link's session, whose steps are all that the pass did
 pub record ServesBy (s : Streams) (v w : View) (ended : LinkEnd) : Type 0 where
   pub exchanges : List Exchange
   pub last : State

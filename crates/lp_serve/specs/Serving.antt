@@ -30,7 +30,8 @@ pub record Served : Type 0 where
 abbrev pub streams_of : Served → Streams
 streams_of x = streams x.given.source.left x.back.source.left x.given.sink.taken x.back.sink.taken
 
--- its session was served, from a link to which nothing was written; and no fault is told that did not happen
+-- The session of the link was served. Nothing was written to the link before, and where its end tells of a fault, there
+-- was one.
 pub record IsServed (places : ℕ) (x : Served) : Type 0 where
   pub fresh : IsNothing x.given.sink.taken
   pub serves : ServesLink places (streams_of x) x.exchanges x.ended
@@ -39,11 +40,12 @@ pub record IsServed (places : ℕ) (x : Served) : Type 0 where
 
 -- ---- one listener
 
--- it was given, and it came back
+-- the two events of a link that was served: it was given, and it came back
 abbrev pub events_of : Served → List LinkEvent
 events_of x = Given x.given ∷ Returned x.back ∷ []
 
--- It gave these links, and took each back before it gave the next: so many, or fewer where it has failed.
+-- The listener gave these links, and took each back before it gave the next one. There are `each` of them, or fewer
+-- where it failed.
 pub record Listened (places each : ℕ) (old new : ListenerState) (links : List Served) : Type 0 where
   pub log : Grows old.log new.log (flat_map events_of links)
   pub served : All (IsServed places) links
@@ -65,7 +67,7 @@ exchanges_of served = map (λ links. map (λ (x : Served). x.exchanges) links) s
 abbrev pub no_listener : ListenerState
 no_listener = record { log = None; accept_faults = 0 }
 
--- some listener has failed
+-- some listener has failed to give a link
 abbrev pub SomeFailed : List ListenerState → List ListenerState → Type 0
 SomeFailed olds news =
     (i : ℕ) × (i < length olds)

@@ -6,7 +6,7 @@ use crate::desk::Desk;
 use spec_serve::LinkEnd;
 use std::alloc::{AllocError, Global};
 
-// So many lists, each with room for the ends of so many links.
+// A list of `count` lists, each with room for the ends of `each` links.
 fn rooms(alloc: Global, count: usize, each: u32) -> Result<Vec<Vec<LinkEnd>>, AllocError>
     ensures len { IfOk result (λ rooms. vec_len rooms ≡ count) }
     ensures rooms { IfOk result (λ rooms. All (IsRoom each) rooms.items) }

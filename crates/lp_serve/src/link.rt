@@ -33,7 +33,7 @@ fn is_quit(ask: &Ask) -> bool
     }
 }
 
-// Reads the next ask. Where none comes, the link ends.
+// Reads the next request. Where none comes, the link ends.
 fn next_ask<L: Link>(alloc: Global, lines: &mut Lines, link: &mut L) -> Result<Ask, LinkEnd>
     ensures asks { TakesAsk (L.left link.old) (L.left link.new) lines.old lines.new result }
     ensures cause { (L.read_faults link.old ≤ L.read_faults link.new)
@@ -52,7 +52,7 @@ fn next_ask<L: Link>(alloc: Global, lines: &mut Lines, link: &mut L) -> Result<A
     }
 }
 
-// Sends a reply.
+// Writes the lines of a reply to the link.
 fn send_reply<L: Link>(alloc: Global, reply: &Reply, link: &mut L) -> Result<(), LinkEnd>
     ensures ok { OnOk result (Appends (L.taken link.old) (L.taken link.new) (reply_lines Alone 0 reply.now)) }
     ensures part { Takes (L.taken link.old) (L.taken link.new) (reply_lines Alone 0 reply.now) }

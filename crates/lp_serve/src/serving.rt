@@ -18,7 +18,7 @@ use std::alloc::Global;
 use std::sync::Wait;
 use std::thread::Threads;
 
-// Whether some listener failed.
+// Whether the listener of some desk failed to give a link.
 fn some_failed<N>(desks: &[Desk<N>]) -> bool
     ensures { result ≡ list_any (λ (desk : exact_desk N). desk.has_failed) desks.now }
 {
@@ -40,7 +40,7 @@ fn ended(said: Result<(), ServeFault>, has_failed: bool) -> Result<(), ServeFaul
     }
 }
 
-// The same of listeners at desks, which stay there.
+// Serves the links of listeners at desks, by one worker for each desk. The desks stay.
 fn serve_desks<R: Threads + Wait + Sync, N: Listen + Send + Drop, K: Sink>(
     rt: &R,
     alloc: Global,

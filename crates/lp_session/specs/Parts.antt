@@ -29,7 +29,7 @@ abbrev pub IsEndOf : Option Model → ExactSolveEnd → Type 0
 IsEndOf None end = ⊥
 IsEndOf (Some m) end = (budget : ℕ) × MayAnswer m budget end
 
--- what is found has the shape of the form
+-- words that a look-up found are well formed and begin with the shape of the form
 abbrev pub FitsForm : Form → Looked → Type 0
 FitsForm f found = IfSome found (λ place. IsWellFormed place.words × (front place.words ≡ shape_of f))
 
@@ -38,7 +38,7 @@ abbrev pub IsSolvedBy : Option Model → ℕ → Looked → SolveEnd → Type 0
 IsSolvedBy None budget found solved = ⊥
 IsSolvedBy (Some m) budget found solved = IsSolved m budget (step.handed_by found) solved
 
--- what is replied to an edit that is not applied
+-- the reply to an edit that was refused, or for which memory ran out
 abbrev pub reply_unapplied : EditError → ExactReply
 reply_unapplied (edits.Fault fault) = edit_refusal fault
 reply_unapplied edits.NoMemory = reply.Memory
@@ -63,7 +63,7 @@ AwaitedFits model (awaited.WhatBecameOf pending) = IsEndOf model pending.end
 
 -- ---- the parts of a step
 
--- it breaks off with a reply, or goes on with the form of the model
+-- a session begins a request: it breaks off with the reply, or goes on with the form of the model that it solves
 abbrev pub BeginsSo : State → ExactAsk → ControlFlow ExactReply Form → State → Type 0
 BeginsSo old asked (Break replied) new = step.Begins old asked (step.Answers replied new)
 BeginsSo old asked (Continue form) new =
@@ -76,7 +76,7 @@ pub record PublishesSo (old : State) (found : Looked) (pending : Pending) (new :
   pub kept : new ≡ old
   pub fits : IsEndOf new.model pending.end
 
--- it breaks off with a reply, or goes on with what is to be published
+-- a session's solve breaks off with the reply, or goes on with words that are to be published
 abbrev pub WorksSo : State → Looked → ControlFlow ExactReply Pending → State → Type 0
 WorksSo old found (Break replied) new = step.Works old found (step.Ends replied new)
 WorksSo old found (Continue pending) new = PublishesSo old found pending new

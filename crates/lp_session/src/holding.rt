@@ -51,7 +51,7 @@ impl marker::Model for Holding {
 }
 
 impl Holding {
-    /// No model.
+    /// A session that holds no model.
     pub(crate) fn new() -> Self
         ensures { result ≡ machine.opening }
     {
@@ -62,7 +62,7 @@ impl Holding {
         }
     }
 
-    /// Begins what is asked. It breaks off with a reply, and goes on with the form of the model that is to be solved. If
+    /// Begins a request. It breaks off with a reply, or goes on with the form of the model that is to be solved. If
     /// memory runs out the reply is `Memory`, and all is as it was.
     pub(crate) fn begin(&mut self, alloc: Global, ask: Ask) -> ControlFlow<Reply, Form>
         ensures { BeginsSo self.old ask result self.new }
@@ -89,7 +89,7 @@ impl Holding {
         reply
     }
 
-    // Begins what one line asks.
+    // Begins the request of a command of one line.
     fn answer(&mut self, alloc: Global, asked: Plain<Edit>) -> ControlFlow<Reply, Form>
         ensures { BeginsSo self.old (asks.Plain asked) result self.new }
     {
@@ -319,7 +319,7 @@ impl Holding {
     }
 }
 
-// What is replied to an edit that is not applied.
+// The reply to an edit that was refused, or for which memory ran out.
 fn reply_unapplied(error: EditError) -> Reply
     ensures { result ≡ reply_unapplied error }
 {

@@ -62,7 +62,7 @@ impl Session {
         }
     }
 
-    /// Begins what is asked. If memory runs out the reply is `Memory`, and the session holds what it did.
+    /// Begins a request. If memory runs out the reply is `Memory`, and the session holds what it did.
     pub fn start(&mut self, alloc: Global, ask: Ask) -> Started<Reply>
         requires { self.old.awaits ≡ Nothing }
         ensures { StartFits self.old.state ask result self.new }
@@ -110,7 +110,7 @@ impl Session {
             .keep(pending.end, pending.how, Publication::Tried(put))
     }
 
-    /// Replies to what is asked, over a board that others may share, by a pass of it. Any session may take any pass.
+    /// Replies to a request, over a board that others may share, by a pass of the board. Any session may take any pass.
     pub fn step(&mut self, alloc: Global, board: &Board, pass: &mut Pass, ask: Ask) -> Reply
         requires rests { self.old.awaits ≡ Nothing }
         requires board { pass.old.board ≡ id_of board.now }

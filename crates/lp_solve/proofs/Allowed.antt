@@ -1,6 +1,6 @@
 -- What a solve ends with may be answered, by the route that it took.
 --
--- `after_stop`: an end of the cold solve may follow a warm start that stopped so.
+-- `after_stop`: an end of the cold solve may follow a warm start that stopped for the given reason.
 -- `cold_is_solved`: without a starting basis a solve may end as the cold solve does.
 -- `formless_solved`: a solve of a model without a form may end as without a starting basis, since it has no basis.
 -- `starting_fits`: a starting basis of the form is one by its statuses too.

@@ -6,7 +6,8 @@ use Rattle.spec_exact.specs.Narrow.{IsNarrow}
 use Rattle.spec_exact.specs.Run.{made}
 use Rattle.spec_exact.proofs.RunsInOrder.{made_more}
 
--- one number more
+-- where a list has the numbers f 0 to f (n - 1), all within 127 bits, and so is f n, the list with f n appended has n +
+-- 1
 pub pushed : (f : ℕ → ℚ) (n : ℕ) (before after : List ℚ) (v : ℚ) → after ≡ before ++ v ∷ [] → IsNarrow v → v ≡ f n →
     (before ≡ made n f) × All IsNarrow before → (after ≡ made (n + 1) f) × All IsNarrow after
 pushed f n before after v put narrow is so_far = (

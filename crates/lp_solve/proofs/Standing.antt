@@ -1,8 +1,8 @@
 -- Columns and rows that are at a basis by their reduced costs and sums are so by the definition.
 --
 -- `ends_if`: a run that gives a limit gives the value that is at this limit.
--- `column_stands_by`: a column that is at the basis by its reduced cost is so by the definition.
--- `row_stands_by`: a row that is at the basis by its sum is so by the definition.
+-- `column_stands_by`: a column that fits the basis by its reduced cost, as computed, fits it by the definition.
+-- `row_stands_by`: a row that fits the basis by its sum, as computed, fits it by the definition.
 use Rattle.std.proofs.Common.{◌≡◌, ℕ, List, Option, Some, None, Ok, true, sym, ap, ◌∙◌}
 use Rattle.spec_exact.specs.Fraction.{ℚ, ◌+ℚ◌, ◌*ℚ◌, neg_ℚ}
 use Rattle.spec_exact.proofs.Sums.{neg-sum_below}

@@ -17,12 +17,12 @@ end_by t used (Some end) = Finished (record { end = end; tableau = t; used = use
 abbrev pub end_of : Ended → PhasesEnd
 end_of e = end_by e.tab e.used e.end
 
--- with this tableau and count both phases end so, or stop so
+-- phase one and two end with this end, this tableau and this count of steps, or stop for this reason
 abbrev pub EndsAt : Result PhasesEnd (RunStop ℚ) → Tableau → ℕ → Result (Option PrimalEnd) (RunStop ℚ) → Type 0
 EndsAt answer t used (Ok end) = answer ≡ Ok (end_by t used end)
 EndsAt answer t used (Err stop) = answer ≡ Err stop
 
--- both phases end so, or stop so
+-- phase one and two end with this end, or stop for this reason
 abbrev pub Ends : Result PhasesEnd (RunStop ℚ) → Result Ended (RunStop ℚ) → Type 0
 Ends answer (Ok e) = answer ≡ Ok (end_of e)
 Ends answer (Err stop) = answer ≡ Err stop

@@ -12,11 +12,11 @@ use Rattle.spec_runs.specs.Warm.{after_form}
 use Rattle.spec_runs.specs.Solve.{SolveEnd}
 use Rattle.spec_solve.specs.Answers.{IsSolved}
 
--- the warm start from a basis of the form stops so
+-- the warm start from a basis of the form stops for the reason `stop`
 abbrev pub StopsFrom : ℕ → Model → Form → List Status → WarmStop ℚ → Type 0
 StopsFrom budget m f basis stop = after_form (Some number_limit) budget m basis (Ok f) ≡ warm.Stopped stop
 
--- from each basis of the form from which the start stops so, a solve may end so
+-- from each basis of the form from which the warm start stops for the reason `stop`, a solve may end with `s`
 abbrev pub IsAfterStop : ℕ → Model → Form → WarmStop ℚ → SolveEnd → Type 0
 IsAfterStop budget m f stop s = (basis : List Status) → IsBasisOf f basis → StopsFrom budget m f basis stop →
     IsSolved m budget (Some basis) s

@@ -23,7 +23,8 @@ IsRunOf budget m f engine (Ended known certificate basis pivots) =
 IsRunOf budget m f engine (Past p) = GaveUp budget m f (Past p) engine
 IsRunOf budget m f engine Spent = GaveUp budget m f Spent engine
 
--- the refusal of the tableaus that is kept, after this engine has ended so
+-- the refusal that is kept after an engine ended: its own end where it is that over tableaus, and else the refusal from
+-- before
 abbrev pub KeepsRefusal : Engine → ExactSolveEnd → ExactSolveEnd → ExactSolveEnd → Type 0
 KeepsRefusal Tableaus refused end kept = kept ≡ end
 KeepsRefusal Factors refused end kept = kept ≡ refused

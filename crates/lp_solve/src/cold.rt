@@ -91,7 +91,7 @@ fn finished(alloc: Global, model: &Model, form: &Form, ended: &Ended) -> Result<
     Ok(checked_cold(model, certificate, basis_of(form, statuses), ended.used))
 }
 
-/// Both phases from the form of the model, and the check of the certificate that they ended with.
+/// Runs phase one and phase two on the form of the model, and checks the certificate of their end.
 pub(crate) fn from_form(
     alloc: Global,
     budget: u64,

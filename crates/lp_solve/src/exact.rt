@@ -62,7 +62,7 @@ fn settled(
     })
 }
 
-// An exact answer with the basis of its end, if the certificate stands at that.
+// An exact answer with the final basis, if the certificate's numbers are those of that basis.
 fn settled_at(
     alloc: Global,
     model: &Model,

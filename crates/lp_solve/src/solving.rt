@@ -37,7 +37,7 @@ fn fall(stop: WarmStop) -> Fall
     }
 }
 
-// The cold solve after a warm start that stopped so.
+// The cold solve after a warm start that stopped for the reason `stop`.
 fn cold_after(
     alloc: Global,
     budget: u64,

@@ -8,7 +8,7 @@ use lp_ratio::Ratio;
 use spec_check::Known;
 use std::alloc::{AllocError, Global};
 
-// The same numbers, as fractions of any width.
+// A list of numbers of 127 bits as fractions of any width.
 fn widened(alloc: Global, list: &[Frac]) -> Result<Vec<Ratio>, AllocError>
     ensures { IfOk result (λ x. x.items ≡ list.now) }
 {
@@ -19,7 +19,7 @@ fn widened(alloc: Global, list: &[Frac]) -> Result<Vec<Ratio>, AllocError>
     Ok(wide)
 }
 
-/// The same certificate, with numbers of any width.
+/// A certificate of numbers of 127 bits as one with numbers of any width.
 pub(crate) fn widened_certificate(
     alloc: Global,
     certificate: &Certificate,
@@ -45,7 +45,7 @@ pub(crate) fn widened_certificate(
     }
 }
 
-/// What is known, with a value of any width.
+/// An answer with a value of 127 bits as one with a value of any width.
 pub(crate) fn widened_known(alloc: Global, known: Known<Frac>) -> Result<wide::Known, AllocError>
     ensures { IfOk result (λ k. k ≡ known) }
 {

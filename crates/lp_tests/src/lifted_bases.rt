@@ -50,7 +50,7 @@ fn statuses_of(alloc: Global, letters: &str) -> Result<Vec<Status>, AllocError> 
     Ok(list)
 }
 
-// Whether a value is written so.
+// Whether the text of a value is the wanted one.
 fn is_value(alloc: Global, value: &Ratio, wanted: &str) -> bool {
     match wide_text(alloc, value) {
         Ok(text) => are_same(text.as_slice(), wanted.as_bytes()),
@@ -58,7 +58,7 @@ fn is_value(alloc: Global, value: &Ratio, wanted: &str) -> bool {
     }
 }
 
-// Whether a certificate is accepted, and shows this.
+// Whether a certificate is accepted and shows the wanted answer.
 pub(crate) fn shows(alloc: Global, verdict: &Verdict, wanted: &str) -> bool {
     match verdict {
         Verdict::Yes(Known::Optimal(value)) => is_value(alloc, value, wanted),

@@ -59,7 +59,7 @@ fn sparse(alloc: Global, size: usize, state: &mut u64) -> Result<Matrix<Residue>
     Ok(matrix)
 }
 
-// The matrix times numbers.
+// The product of a matrix and a list of numbers, modulo the prime.
 fn product(
     alloc: Global,
     matrix: &Matrix<Residue>,

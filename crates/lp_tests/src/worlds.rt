@@ -8,7 +8,7 @@ use spec_world::{Act, Event, StepEnd};
 use std::alloc::Global;
 use std::test::Fail;
 
-// The world takes one act of the session. What is replied is dropped.
+// The world takes one act of the session. The reply is dropped.
 fn step(alloc: Global, world: &mut World, session: u32, act: Act<Ask>) {
     let _ = world.step(alloc, Event { session, act });
 }
