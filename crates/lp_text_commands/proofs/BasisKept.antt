@@ -72,7 +72,7 @@ said_within limits style lines (Ok handed) h =
     spelled_kept limits style lines handed.model (spelled_from limits handed style lines start 0 h)
 said_within limits style lines (Err fault) h = tt
 
--- what is heard of them from the start on
+-- where a text and a basis file are read within limits and give a model, the model is within these limits
 pub heard_within : (limits : SizeLimits) (style : Style) (before after : Option (List ℕ)) (what : BasisSaid) →
     Hears (basis_said limits style) before after what → MayTake (λ handed. IsModelWithin limits handed.model) what
 heard_within limits style before after what h =

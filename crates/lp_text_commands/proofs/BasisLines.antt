@@ -1,7 +1,7 @@
 -- How the lines of a text, and of a basis file after it, lead from stage to stage.
 --
 -- `said_within`: reading by steps with the limits says what the definition of the reading says.
--- `leads_from`: a line leads to the stage, or to what is said, that one step of the reading gives.
+-- `leads_from`: a line leads to the state, or to the result, that one step of the reading gives.
 use Rattle.std.proofs.Common.{◌≡◌, ℕ, ◌+◌, ◌≤◌, Some, Result, Ok, Err, List, [], ◌∷◌, arith, refl, subst}
 use Rattle.std.specs.Prelude.{IfOk}
 use Rattle.spec_text.specs.declared.line.Line.{Line}
@@ -33,27 +33,27 @@ abbrev lines_in : reading.Stage → ℕ
 lines_in (reading.InText style s n) = n
 lines_in (reading.InFile m f s n) = n
 
--- where a basis file begins behind a text, the next stage has read no more lines than were read
+-- where a basis file begins behind a text, the next state has counted no more lines than were read
 begun_counts : (m : Model) (n : ℕ) (o : Result Form (FormFault ℚ)) (next : reading.Stage) →
     reading.begun_file m o ≡ said.On next → lines_in next ≤ n
 begun_counts m n (Ok f) next e = subst (λ a. lines_in a ≤ n) (on_same _ next e) (omega arith)
 begun_counts m n (Err why) next e = cc
 
--- behind a line of a text, the next stage has read no more lines than were read
+-- behind a line of a text, the next state has counted no more lines than were read
 text_counts : (style : Style) (n : ℕ) (o : text.Outcome) (next : reading.Stage) →
     reading.behind_text style n o ≡ said.On next → lines_in next ≤ n
 text_counts style n (Ok (text.More s)) next e = subst (λ a. lines_in a ≤ n) (on_same _ next e) (omega arith)
 text_counts style n (Ok (text.Done m)) next e = begun_counts m n (form_of (Some number_limit) m) next e
 text_counts style n (Err code) next e = cc
 
--- behind a line of a basis file, the next stage has read no more lines than were read
+-- behind a line of a basis file, the next state has counted no more lines than were read
 file_counts : (m : Model) (f : Form) (n : ℕ) (o : file.Outcome) (next : reading.Stage) →
     reading.behind_file m f n o ≡ said.On next → lines_in next ≤ n
 file_counts m f n (Ok (file.More s)) next e = subst (λ a. lines_in a ≤ n) (on_same _ next e) (omega arith)
 file_counts m f n (Ok (file.Done basis)) next e = cc
 file_counts m f n (Err code) next e = cc
 
--- a line leads to a stage that has read at most one line more
+-- a line leads to a state of the reading that has counted at most one line more
 stage_counts : (limits : SizeLimits) (at next : reading.Stage) (line : Line (List ℕ)) →
     basis_step limits at line ≡ said.On next → lines_in next ≤ lines_in at + 1
 unfolding basis_step
@@ -69,14 +69,14 @@ on_within : (limits : SizeLimits) (P : reading.Stage → Type 0) (o : said.Step 
 on_within limits P (said.On s) h next e = subst (λ (r : ReadingAt). P r.stage) (on_same _ next e) (h s refl)
 on_within limits P (said.Says what) h next e = cc
 
--- a line leads to a reading whose stage has read at most one line more
+-- a line leads to a state of the reading, with limits, that has counted at most one line more
 step_counts : (at next : ReadingAt) (line : Line (List ℕ)) → reading_step at line ≡ said.On next →
     lines_in next.stage ≤ lines_in at.stage + 1
 step_counts at next line e =
     on_within at.limits (λ s. lines_in s ≤ lines_in at.stage + 1) (basis_step at.limits at.stage line)
     (λ s. stage_counts at.limits at.stage s line) next e
 
--- a stage of the code has read as many lines as the definition's stage
+-- the code's state of the reading has counted as many lines as the definition's
 count_is : (at : BasisStage) → lines_in (stage_of at).stage ≡ count_of at
 count_is (stage.Text reader) = refl
 count_is (stage.File at) = refl
@@ -98,7 +98,7 @@ said_within limits at (line ∷ lines) = by (basis_step limits at line) (λ s. s
 
 -- ---- at the end of the input something is said
 
--- no stage goes on at the end of the input
+-- at the end of the input no state of the reading goes on to another one
 stage_ends : (limits : SizeLimits) (at next : reading.Stage) → basis_step limits at End ≡ said.On next → ⊥
 unfolding basis_step text.step file.step reading_of
 stage_ends limits (reading.InText style s n) next e = cc

@@ -1,7 +1,7 @@
 -- How the lines of a text, and of a certificate after it, lead from stage to stage.
 --
--- `text_counts`: behind a text, the next stage has read no more lines than were read.
--- `leads_from`: a line leads to the stage, or to what is said, that one step of the reading gives.
+-- `text_counts`: behind a line of a text, the next state has counted no more lines than were read.
+-- `leads_from`: a line leads to the state, or to the result, that one step of the reading gives.
 use Rattle.std.proofs.Common.{◌≡◌, ℕ, ◌+◌, ◌≤◌, Result, Ok, Err, List, arith, refl, subst}
 use Rattle.std.specs.Prelude.{IfOk}
 use Rattle.spec_text.specs.declared.line.Line.{Line}
@@ -35,14 +35,14 @@ text_counts style n (Ok (text.More s)) next e = subst (λ a. lines_in a ≤ n) (
 text_counts style n (Ok (text.Done m)) next e = subst (λ a. lines_in a ≤ n) (on_same _ next e) (omega arith)
 text_counts style n (Err code) next e = cc
 
--- behind a line of a certificate, the next stage has read no more lines than were read
+-- behind a line of a certificate, the next state has counted no more lines than were read
 certificate_counts : (m : Model) (n : ℕ) (o : certificate.Outcome) (next : reading.Stage) →
     reading.behind_certificate m n o ≡ reading.On next → lines_in next ≤ n
 certificate_counts m n (progress.More raw) next e = subst (λ a. lines_in a ≤ n) (on_same _ next e) (omega arith)
 certificate_counts m n (progress.Done raw) next e = cc
 certificate_counts m n progress.Unfit next e = cc
 
--- a line leads to a stage that has read at most one line more
+-- a line leads to a state of the reading that has counted at most one line more
 step_counts : (at next : reading.Stage) (line : Line (List ℕ)) → check_step at line ≡ reading.On next →
     lines_in next ≤ lines_in at + 1
 unfolding check_step
@@ -51,7 +51,7 @@ step_counts (reading.InText style s n) next line e = text_counts style (n + 1) (
 step_counts (reading.InCertificate m raw n) next line e =
     certificate_counts m (n + 1) (certificate.step raw line) next e
 
--- a stage of the code has read as many lines as the definition's stage
+-- the code's state of the reading has counted as many lines as the definition's
 count_is : (at : CheckStage) → lines_in (stage_of at) ≡ count_of at
 count_is (stage.Text reader) = refl
 count_is (stage.Certificate model reader) = refl

@@ -3,7 +3,7 @@
 -- `exact_fits`: the certificate of an exact end fits the model.
 -- `exact_leaves`: an exact end leaves a basis of the model's form, where it leaves one.
 -- `open_line`: where an exact solve ends open, `OPEN` is all that is written of it.
--- `answer_lines`: what is written of an answer is its value, its origin and its certificate, each line ended.
+-- `answer_lines`: the text of an exact answer is the lines of its value, of its origin and of its certificate.
 -- `formless_based`: of a model without a form, the same is written cold and from the basis of a file.
 use Rattle.std.proofs.Common.{◌≡◌, ℕ, List, [], ◌∷◌, ◌++◌, codes, Option, Some, None, IfSome, Result, Ok, Err, OnOk, refl, ap, sym, ◌∙◌, append-nil, append_assoc}
 use Rattle.spec_exact.specs.Fraction.{ℚ}

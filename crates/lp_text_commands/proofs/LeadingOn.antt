@@ -9,7 +9,7 @@ use Rattle.lp_line.specs.declared.hearing.Step.TheVariants as step
 use Rattle.lp_line.specs.Hearing.{Leads}
 use Rattle.lp_text_commands.specs.Leading.{step_by, says_by}
 
--- no stage leads to two others
+-- a step of a reading leads to at most one state
 pub on_same : {S R : Type 0} (a b : S) → ◌≡◌ {A = said.Step S R} (said.On a) (said.On b) → a ≡ b
 on_same a b e = cc
 

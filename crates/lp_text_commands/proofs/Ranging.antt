@@ -1,7 +1,8 @@
 -- From which basis numbers are ranged, and what is written of the ranges behind an answer.
 --
 -- `keeps_at_end`: the basis that a cold solve leaves keeps the model, where it leaves one.
--- `behind`: where numbers are ranged from a basis, what is written of one and of all of them is ranged from it.
+-- `behind`: where numbers are ranged from a basis, the text of one range and the text of all are those of ranges from
+--   this basis.
 -- `none_behind`: where numbers are ranged from no basis, nothing is written behind the answer.
 -- `with_range`: what `range` writes of one number is the answer, and the text of the range behind it.
 -- `with_ranges`: what `range all` writes is the answer, and the texts of all ranges behind it.

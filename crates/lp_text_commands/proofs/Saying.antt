@@ -87,7 +87,7 @@ module _ {R : Type 0} (tells : List (Line (List ℕ)) → Option R) (Out : R →
   says what h now (Err halts.Cut) w = absurd w
   says what h now (Err halts.Over) w = absurd w
 
--- what is written is also another output
+-- where any output of one kind is one of a second kind, a command that writes the first kind writes the second
 says_also : {R : Type 0} (tells : List (Line (List ℕ)) → Option R) (Out Other : R → List ℕ → Type 0)
     (code_of : R → ℕ) (s : Streams) (result : Result ExitStatus Halt) →
     ((what : R) (written : List ℕ) → Out what written → Other what written) → SaysSo tells Out code_of s result →
@@ -114,7 +114,8 @@ says_also tells Out Other code_of s (Err halts.Over) also h = h
 says_also tells Out Other code_of s (Err halts.NoMemory) also h = h
 says_also tells Out Other code_of s (Err halts.Cut) also h = absurd h
 
--- and where an output is given by what is said, and by the fault
+-- where the text of a fault is an output of a command, a command that writes that or the output of a result writes its
+-- output
 says_out : {G F : Type 0} (tells : List (Line (List ℕ)) → Option (Result G F))
     (Out : Result G F → List ℕ → Type 0) (line : F → List ℕ) (code_of : Result G F → ℕ) (s : Streams)
     (result : Result ExitStatus Halt) →

@@ -1,19 +1,19 @@
 -- Lines of sides and of points, one more at a time.
 --
--- `ended_first`: ended lines are the first one with its end, and the others ended.
+-- `ended_first`: the bytes of a list of lines are the first line, a line feed, and the bytes of the later lines.
 -- `ended_none`: no lines are no text.
--- `one_on`: a text that was put behind another stays behind it when more is put behind both.
+-- `one_on`: a text that is appended to a first one stays behind it when more is appended.
 -- `item_holds`: what holds of all items holds of the one at a place.
 -- `sides_more`: the lines of one side more are those of the ones before and its own.
 -- `parts_more`: the lines of one part of a point more are those of the ones before and its own.
--- `part_on`: when the lines of a part are put behind those before, the lines of one part more are there.
+-- `part_on`: appending the lines of one part more to those of the first j parts gives those of the first j + 1.
 -- `no_part`: a part that is 0 has no lines.
 -- `some_part`: a part that is not 0 has one line, which is its text ended.
 -- `points_more`: the lines of one point more are those of the ones before and its own, with its number.
--- `five_on`: five texts that are put behind a first one stand behind it in their order.
--- `whole`: what is written of a found subsystem is its heading, sides, certificate, points and `END`.
+-- `five_on`: five texts that are appended to a first one are behind it in their order.
+-- `whole`: the text of a found irreducible subset is its heading, its sides, its certificate, its points and `END`.
 -- `answer_line`: the line of an answer is the words of its end, ended.
--- `stopped_text`: what is written of a search that stopped is `INFEASIBLE` and the words of the stop.
+-- `stopped_text`: the text of a search that stopped is `INFEASIBLE` and the words of the stop.
 use Rattle.std.proofs.Common.{◌≡◌, ℕ, zero, suc, ◌+◌, ◌<◌, List, [], ◌∷◌, ◌++◌, take, map, length, Some, arith, ap, sym, ◌∙◌, refl}
 use Rattle.std.proofs.Common.{append-nil, append_assoc, subst, Bool, true, false, cond, All}
 use Rattle.std.specs.Prelude.{codes, decimal}

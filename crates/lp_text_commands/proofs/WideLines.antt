@@ -1,6 +1,6 @@
 -- How the lines of a text, and of a certificate with wide numbers after it, lead from stage to stage.
 --
--- `leads_from`: a line leads to the stage, or to what is said, that one step of the reading gives.
+-- `leads_from`: a line leads to the state, or to the result, that one step of the reading gives.
 -- `same_line`: where a reply has the same text with wide numbers, it has the same line.
 -- `optimal_line`: the words `YES OPTIMAL` and the value are the line of an accepted optimum.
 use Rattle.std.proofs.Common.{◌≡◌, ℕ, ◌+◌, ◌≤◌, Result, List, [], ◌∷◌, ◌++◌, ap, ◌∙◌, arith, refl, subst}
@@ -33,14 +33,14 @@ use Rattle.lp_text_commands.proofs.LeadingOn.{on_same}
 use Rattle.lp_text_commands.proofs.CheckLines.{lines_in, text_counts}
 use Rattle.lp_text_commands.specs.WideStage.{wide_stage_of, wide_step_of, wide_count_of, WideSays}
 
--- behind a line of a certificate with wide numbers, the next stage has read no more lines than were read
+-- behind a line of a certificate with numbers of any width, the next state has counted no more lines than were read
 certificate_counts : (m : Model) (n : ℕ) (o : certificate.Outcome) (next : reading.Stage) →
     behind_wide m n o ≡ reading.On next → lines_in next ≤ n
 certificate_counts m n (progress.More raw) next e = subst (λ a. lines_in a ≤ n) (on_same _ next e) (omega arith)
 certificate_counts m n (progress.Done raw) next e = cc
 certificate_counts m n progress.Unfit next e = cc
 
--- a line leads to a stage that has read at most one line more
+-- a line leads to a state of the reading that has counted at most one line more
 step_counts : (at next : reading.Stage) (line : Line (List ℕ)) → wide_step at line ≡ reading.On next →
     lines_in next ≤ lines_in at + 1
 unfolding wide_step
@@ -55,7 +55,7 @@ unfolding wide_step text.step step_by
 end_says (reading.InText style s n) next e = cc
 end_says (reading.InCertificate m so_far n) next e = cc
 
--- a stage of the code has read as many lines as the definition's stage
+-- the code's state of the reading has counted as many lines as the definition's
 count_is : (at : WideStage) → lines_in (wide_stage_of at) ≡ wide_count_of at
 count_is (stage.Text reader) = refl
 count_is (stage.Certificate model reader) = refl

@@ -9,7 +9,7 @@ use Rattle.lp_text_commands.specs.declared.basis.stage.BasisStage.{BasisStage}
 use Rattle.lp_text_commands.specs.declared.basis.stage.BasisStage.TheVariants as stage
 use Rattle.lp_text_commands.specs.Leading.{step_by, says_by}
 
--- a stage of a reading of a model within these limits
+-- a state of reading a text and a basis file, with the limits on the model's size
 pub record ReadingAt : Type 0 where
   pub limits : SizeLimits
   pub stage : reading.Stage
@@ -24,7 +24,7 @@ step_within limits (said.Says what) = said.Says what
 abbrev pub reading_step : ReadingAt → Line (List ℕ) → said.Step ReadingAt reading.BasisSaid
 reading_step at line = step_within at.limits (reading.basis_step at.limits at.stage line)
 
--- the stage of the code, as the definitions have it
+-- the code's state of reading a text and a basis file, as the definitions have it
 abbrev pub stage_of : BasisStage → ReadingAt
 stage_of (stage.Text reader) =
     record { limits = reader.limits; stage = reading.InText reader.text.style reader.text.state reader.text.lines }
@@ -39,6 +39,6 @@ abbrev pub count_of : BasisStage → ℕ
 count_of (stage.Text reader) = reader.text.lines
 count_of (stage.File at) = at.lines
 
--- what these lines say after this stage
+-- what lines of a text and a basis file lead to from a state of the code's reading on
 abbrev pub BasisSays : BasisStage → List (Line (List ℕ)) → Option reading.BasisSaid → Type 0
 BasisSays stage lines answer = says_by stage_of reading_step stage lines answer

@@ -16,19 +16,19 @@ use Rattle.spec_server.specs.declared.asks.Reply.TheVariants as reply
 use Rattle.spec_commands.specs.BasisOut as reading
 use Rattle.spec_commands.specs.BasisWideOut.{origin_text, based_text}
 
--- what is written of a solve: its answer, how it was found, and its certificate
+-- the lines that are written of a solve: its answer, how it was found, and its certificate
 abbrev pub end_lines : Model → SolveEnd → List ℕ
 end_lines m solved =
     check_line (answer_of opening_budget solved.end) ++ reading.route_line solved
     ++ ended_lines (lines_of_solved m solved.end)
 
--- what is written of an exact solve, without the basis of its answer
+-- the lines that are written of an exact solve, without the basis of its answer
 abbrev pub exact_lines : Model → RationalEnd → List ℕ
 exact_lines m (Answered a) =
     ended_lines (wide_known_text a.known ∷ origin_text a.origin ∷ wide_certificate_lines m a.certificate)
 exact_lines m Open = ended_lines (wide_lines m Open)
 
--- what is written of an exact solve, with the basis of its answer
+-- the lines that are written of an exact solve, with the basis of its answer
 abbrev pub whole_lines : Model → Result Form (FormFault ℚ) → RationalEnd → List ℕ
 whole_lines m form (Answered a) = exact_lines m (Answered a) ++ based_text m form a.basis
 whole_lines m form Open = exact_lines m Open

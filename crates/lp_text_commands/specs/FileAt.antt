@@ -7,7 +7,7 @@ use Rattle.spec_simplex.specs.Form.{Form, form_of}
 use Rattle.spec_bas.specs.Steps as file
 use Rattle.spec_bas.specs.Fits.{IsMarking}
 
--- a model, the limits that it was read within, its form, what was read of the file so far, and of how many lines
+-- the state of a reader of a basis file: the model, its limits and form, what the cards gave, and the number of lines
 pub record FileAt : Type 0 where
   pub limits : SizeLimits
   pub model : Model

@@ -18,11 +18,11 @@ Agrees {R} Say said = (lines : List (Line (List ℕ))) (answer : Option R) → S
 
 -- ---- what is read
 
--- the most bytes that are read ahead
+-- the most bytes that are read before they are needed
 abbrev pub buffer_len : ℕ
 buffer_len = 4096
 
--- the bytes are those of lines of which the last one decides what is said, and less than a buffer after them
+-- the last of some lines decides the result, and less than a buffer of bytes was read behind it
 pub record StopsSoon {R : Type 0} (said : List (Line (List ℕ)) → Option R) (read : List ℕ) (what : R) : Type 0 where
   pub lines : List (Line (List ℕ))
   pub last : Line (List ℕ)
@@ -57,12 +57,12 @@ pub record HearsTooMuch {R : Type 0} (said : List (Line (List ℕ)) → Option R
   pub over : input_limit < length nothing.read
   pub soon : length nothing.read ≤ input_limit + buffer_len
 
--- some bytes were read
+-- the source was read, and some bytes were taken of it
 pub record Reads (before after : Option (List ℕ)) : Type 0 where
   pub read : List ℕ
   pub consumed : Consumes before after read
 
--- what was read, by what is said of it or by what halted the reading
+-- what was read of the input, by the result of its lines or by why the reading halted
 abbrev pub HearsSo : {R : Type 0} → (List (Line (List ℕ)) → Option R) → Option (List ℕ) → Option (List ℕ) →
     Result R Halt → Type 0
 HearsSo said before after (Ok what) = Hears said before after what
@@ -93,7 +93,7 @@ pub record SaysInPart {R : Type 0} (said : List (Line (List ℕ)) → Option R) 
   pub is_output : Out what output
   pub written : Takes s.taken_before s.taken_after output
 
--- nothing was written
+-- no byte of output was written
 abbrev pub WritesNothing : Streams → Type 0
 WritesNothing s = Appends s.taken_before s.taken_after []
 

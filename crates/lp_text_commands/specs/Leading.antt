@@ -5,12 +5,12 @@ use Rattle.spec_server.specs.Said as said
 use Rattle.lp_line.specs.declared.hearing.Step.{Step}
 use Rattle.lp_line.specs.declared.hearing.Step.TheVariants as step
 
--- a step of the code, by what its stages are
+-- a step of the code's reading as one of the definition's, by what `stage_of` makes of a state
 abbrev pub step_by : {T S R : Type 0} → (T → S) → Step T R → said.Step S R
 step_by stage_of (step.On next) = said.On (stage_of next)
 step_by stage_of (step.Says what) = said.Says what
 
--- the lines that follow a stage of the reading lead to this answer; it is none where more lines are needed
+-- the lines that follow a state of the reading lead to this result; none where more lines are needed
 abbrev pub says_by : {T S R : Type 0} → (T → S) → (S → Line (List ℕ) → said.Step S R) → T → List (Line (List ℕ)) →
     Option R → Type 0
 says_by stage_of advance stage lines answer = said.said_by advance (stage_of stage) lines ≡ answer

@@ -9,7 +9,7 @@ use Rattle.lp_text_commands.specs.declared.check.stage.CheckStage.{CheckStage}
 use Rattle.lp_text_commands.specs.declared.check.stage.CheckStage.TheVariants as stage
 use Rattle.lp_text_commands.specs.Leading.{step_by, says_by}
 
--- the stage of the code, as the definitions have it
+-- the code's state of reading a text and a certificate, as the definitions have it
 abbrev pub stage_of : CheckStage → reading.Stage
 stage_of (stage.Text reader) = reading.InText reader.style reader.state reader.lines
 stage_of (stage.Certificate model reader) = reading.InCertificate model reader.raw reader.lines
@@ -23,6 +23,6 @@ abbrev pub count_of : CheckStage → ℕ
 count_of (stage.Text reader) = reader.lines
 count_of (stage.Certificate model reader) = reader.lines
 
--- what these lines say after this stage
+-- what lines of a text and a certificate lead to from a state of the code's reading on
 abbrev pub CheckSays : CheckStage → List (Line (List ℕ)) → Option ExactReply → Type 0
 CheckSays stage lines answer = says_by stage_of reading.check_step stage lines answer

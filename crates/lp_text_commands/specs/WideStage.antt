@@ -10,7 +10,7 @@ use Rattle.lp_text_commands.specs.declared.check.wide_stage.WideStage.{WideStage
 use Rattle.lp_text_commands.specs.declared.check.wide_stage.WideStage.TheVariants as stage
 use Rattle.lp_text_commands.specs.Leading.{step_by, says_by}
 
--- the stage of the code, as the definitions have it
+-- the code's state of reading a text and a certificate with numbers of any width, as the definitions have it
 abbrev pub wide_stage_of : WideStage → reading.Stage
 wide_stage_of (stage.Text reader) = reading.InText reader.style reader.state reader.lines
 wide_stage_of (stage.Certificate model reader) = reading.InCertificate model reader.raw reader.lines
@@ -24,6 +24,6 @@ abbrev pub wide_count_of : WideStage → ℕ
 wide_count_of (stage.Text reader) = reader.lines
 wide_count_of (stage.Certificate model reader) = reader.lines
 
--- what these lines say after this stage
+-- what lines of a text and a certificate with numbers of any width lead to from a state of the code's reading on
 abbrev pub WideSays : WideStage → List (Line (List ℕ)) → Option ExactReply → Type 0
 WideSays stage lines answer = says_by wide_stage_of wide_step stage lines answer

@@ -7,7 +7,7 @@ use Rattle.lp_line.specs.declared.halt.Halt.{Halt}
 use Rattle.lp_line.specs.declared.halt.Halt.TheVariants as halts
 use Rattle.lp_text_commands.specs.declared.exit_status.ExitStatus.{ExitStatus}
 
--- all of an output of this kind was written, and the status is this
+-- all of an output of this kind was written, and the exit status is `is_code`
 pub record WritesAll (Out : List ℕ → Type 0) (is_code : ℕ) (before after : Option (List ℕ)) (code : ℕ) : Type 0 where
   pub output : List ℕ
   pub is_output : Out output

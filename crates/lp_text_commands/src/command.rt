@@ -24,12 +24,12 @@ pub(crate) trait Command {
     // what may be written
     ghost may_write: { Self → Self.Given → List ℕ → Type 0 };
 
-    /// Makes the outcome.
+    /// Carries the command out on the model or the basis file that it is given.
     fn run(&self, alloc: Global, given: &Self::Given) -> Result<Self::Outcome, AllocError>
         requires { takes self.now given.now }
         ensures { IfOk result (may_make self.now given.now) };
 
-    /// Writes the lines of the outcome after what is there.
+    /// Appends the lines of the command's outcome to the text.
     fn write(
         &self,
         alloc: Global,

@@ -83,7 +83,7 @@ pub fn generate<K: Sink>(
     Ok(())
 }
 
-// What is written of a model that was made.
+// The text that `gen` writes of the model that it made.
 fn generated_text(alloc: Global, model: &Model) -> Result<Bytes, AllocError>
     requires { IsUsual model.now }
     ensures { IfOk result (SolvedOut model.now) }

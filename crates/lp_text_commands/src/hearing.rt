@@ -22,14 +22,14 @@ pub(crate) trait Output: Drop {
 
     ghost code: { Self → ℕ };
 
-    /// Writes it after what is there, and tells the status.
+    /// Appends the output of a result to the text, and gives the exit status.
     fn print(self, alloc: Global, to: &mut Bytes) -> Result<ExitStatus, AllocError>
         requires { can_print self }
         ensures output { OnOk result (Prints (may_write self) to.old to.new) }
         ensures status { IfOk result (λ status. status.code ≡ code self) };
 }
 
-/// What is said of the input that the source gives.
+/// Reads the input that the source gives, and tells the result of its lines.
 pub(crate) fn hear_input<S: Source, T: Stage>(
     alloc: Global,
     first: T,
@@ -62,7 +62,7 @@ pub(crate) fn send_printed<K: Sink>(
     Ok(status)
 }
 
-/// Reads the input that the source gives, and writes what is said of it.
+/// Reads the input that the source gives, and writes the output of the result of its lines.
 pub(crate) fn say<S: Source, K: Sink, T: Stage>(
     alloc: Global,
     first: T,

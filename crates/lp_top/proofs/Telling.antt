@@ -89,7 +89,7 @@ module _ {workers places : ℕ} {s : Streams} where
 
 -- ---- the commands that read a text
 
--- a status that is neither 0 nor 9 is not one of the two
+-- a status that is not 0 and not 9 is not one of 0 and 9
 not_done : (n : ℕ) → ¬ (n ≡ 0) → ¬ (n ≡ 9) → (n ≡ 0) ⊎ (n ≡ 9) → ⊥
 not_done n a b (inl e) = a e
 not_done n a b (inr e) = b e

@@ -46,7 +46,7 @@ all_front bytes = ([], append-nil bytes)
 
 -- ---- a script
 
--- the commands of the script that was read so far are the first of those in any longer text of the script
+-- the requests of the part of a script that was read are the first of those in any longer text of the script
 asked_first : (after : Option (List ℕ)) (read : List ℕ) (asks : List (Asked ExactAsk)) → AreAsked after read asks →
     HoldsOfAll after read (AreFirstIn Numbered asks)
 asked_first after read asks (inl e) = inr λ more.
@@ -244,7 +244,7 @@ link_true places s exchanges moves =
 lent : Served → Lent
 lent x = record { given = x.given; back = x.back }
 
--- a listener whose connections were served is one to which what is true was written
+-- what was written to the connections that a listener gave, and that were served, is true by what was read of them
 listened_true : (places each : ℕ) (old new : ListenerState) (served : List Served) →
     Listened places each old new served → IsTrueListener old new
 unfolding lent
@@ -255,7 +255,7 @@ listened_true places each old new served h = record {
       (λ i d l. link_true places _ _ (h.served i d l).serves.0);
 }
 
--- no link was given
+-- a listener that gave no link has written nothing that is false
 idle_true : (old new : ListenerState) → new ≡ old → IsTrueListener old new
 idle_true old new same = record {
   links = [];

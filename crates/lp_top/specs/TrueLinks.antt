@@ -19,7 +19,8 @@ pub record Lent : Type 0 where
 abbrev pub lent_streams : Lent → Streams
 lent_streams x = streams x.given.source.left x.back.source.left x.given.sink.taken x.back.sink.taken
 
--- It gave these links, each after the one before had come back. To each was written what is true by what was read of it.
+-- The listener gave these links, each after the one before had come back. What was written to each is true by what was
+-- read of it.
 pub record IsTrueListener (old new : ListenerState) : Type 0 where
   pub links : List Lent
   pub log : Grows old.log new.log (flat_map (λ x. Given x.given ∷ Returned x.back ∷ []) links)

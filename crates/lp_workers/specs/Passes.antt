@@ -42,6 +42,6 @@ notes_of_all passes = flat_map notes_of passes
 abbrev pub KnowsWhole : View → Type 0
 KnowsWhole v = (n : ℕ) × OwnsBelow v n × CountTells v n
 
--- the view with so many parts left
+-- what a pass knows that has `parts` of the 64 parts of the right to the board
 abbrev pub part_of : View → ℕ → View
 part_of v parts = record v { share = parts }

@@ -14,6 +14,6 @@ IsTextOf Usage text = Unit {0}
 abbrev pub ShowsAll : Notice → Option (List ℕ) → Option (List ℕ) → Type 0
 ShowsAll notice before after = (text : List ℕ) × IsTextOf notice text × Appends before after text
 
--- as far as was taken
+-- a part of the notice's text was written, as much as the output took
 abbrev pub ShowsPart : Notice → Option (List ℕ) → Option (List ℕ) → Type 0
 ShowsPart notice before after = (text : List ℕ) × IsTextOf notice text × Takes before after text

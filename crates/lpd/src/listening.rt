@@ -32,7 +32,7 @@ pub fn wanted(words: &[String]) -> u32
     }
 }
 
-/// So many listeners, all of one socket, which count their workers from 1.
+/// A list of `count` listeners of one socket, which number their workers from 1 on.
 pub fn nets_at<'a>(
     rt: &'a HostRuntime,
     alloc: Global,

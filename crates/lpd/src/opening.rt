@@ -15,7 +15,7 @@ struct Start {
 }
 
 impl Start {
-    // Keeps of what is written next as much as there is room for.
+    // Keeps as much of the next piece of output as there is room for.
     fn keep(&mut self, piece: &[u8]) {
         let room = &mut self.bytes[self.count..];
         let more = room.len().min(piece.len());

@@ -178,7 +178,7 @@ fn of_model<'a>(command: TextCommand<&[u8]>, style: Style, what: &'a str) -> Opt
     })
 }
 
-// The limits that a line passes, and which command has others.
+// The sizes that a line of the command may not pass, and which command allows greater ones.
 fn limits(command: TextCommand<&[u8]>) -> (&'static str, &'static str) {
     let narrow = "more than 256 rows, 512 columns or 16,384 bytes of a line";
     match command {

@@ -41,7 +41,7 @@ struct Head {
     plain: &'static str,
 }
 
-// A command line of the usage, parted into its name and its plain words.
+// A command line of the usage, split into the command's name and the words behind it that are no options.
 fn head_of(command: &'static str) -> Head {
     match command.split_once(' ') {
         Some((name, plain)) => Head { name, plain },
@@ -89,7 +89,7 @@ fn is_of(command: &str, heading: &str) -> bool {
         .any(|word| word.trim_end_matches(',') == command)
 }
 
-// The command, its plain words and its options.
+// The usage line of a command: its name, the words that are no options, and its options.
 fn line_of(alloc: Global, command: Head) -> Result<String, AllocError> {
     let mut line = format!(in alloc; "lpd {}", command.name)?;
     if command.plain != "" {
@@ -114,7 +114,7 @@ fn option_of(alloc: Global, name: &str, value: &str) -> Result<String, AllocErro
     format!(in alloc; " [--{name} {value}]")
 }
 
-// What is wrong, and what may have been meant.
+// What the fault of a command line is, and which word may have been meant.
 fn reason_and_hint(
     alloc: Global,
     command: Option<Head>,
@@ -126,7 +126,7 @@ fn reason_and_hint(
     Ok(said)
 }
 
-// What is wrong with the word that is at fault.
+// What the fault of a word of the command line is.
 fn reason(
     alloc: Global,
     command: Option<Head>,

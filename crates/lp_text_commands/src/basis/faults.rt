@@ -11,7 +11,7 @@ use spec_bas::{BasCode, BasFault};
 use spec_commands::BasisFault;
 use std::alloc::{AllocError, Global};
 
-/// Writes what is wrong with a text or the basis file after it.
+/// Appends the line of a fault in a text or in the basis file after it.
 #[tactic(auto, unfolding(spec_commands::specs::BasisOut::basis_fault_line))]
 pub(crate) fn print_fault(
     alloc: Global,
@@ -28,7 +28,7 @@ pub(crate) fn print_fault(
     }
 }
 
-// The number of what is wrong with a basis file.
+// The number by which a fault of a basis file is known.
 fn code_number(code: BasCode) -> u64
     ensures { result ≡ checks.code_number code }
 {
@@ -43,7 +43,7 @@ fn code_number(code: BasCode) -> u64
     }
 }
 
-// Writes what is wrong with a basis file.
+// Appends the line of a fault in a basis file.
 #[tactic(auto, unfolding(spec_commands::specs::BasisOut::basis_fault_line))]
 fn print_basis_fault(alloc: Global, fault: BasFault, to: &mut Bytes) -> Result<(), AllocError>
     ensures { OnOk result (to.new ≡ to.old ++ basis_fault_line (faults.File fault)) }

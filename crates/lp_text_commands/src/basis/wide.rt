@@ -119,7 +119,7 @@ fn print_answer(
     print_lines(&lines, to)
 }
 
-// Writes from where an answer was found after what is there.
+// Appends the words that tell from where an exact answer came.
 fn push_origin(alloc: Global, origin: Origin, to: &mut Bytes) -> Result<(), AllocError>
     ensures { OnOk result (to.new ≡ to.old ++ origin_text origin) }
 {

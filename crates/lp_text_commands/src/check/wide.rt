@@ -44,7 +44,7 @@ impl WideReply {
     ghost use Rattle.std.specs.Prelude.{◌≡◌};
     ghost use Rattle.lp_text_commands.specs.WideSaid.{reply_of};
 
-    /// The reply that says this.
+    /// The reply of `check --wide` that tells this result.
     pub(crate) fn new(said: WideSaid) -> WideReply
         ensures { result ≡ reply_of said }
     {

@@ -104,7 +104,7 @@ fn verdict_step(alloc: Global, model: &Model, raw: RawOf<Ratio>) -> Result<WideS
     Ok(Step::Says(said?))
 }
 
-// What is said of a certificate for a model.
+// The verdict of `check --wide` on a certificate for a model.
 fn verdict_on(alloc: Global, model: &Model, raw: &RawOf<Ratio>) -> Result<WideReply, AllocError>
     ensures { IfOk result (λ said. said ≡ wide_verdict_on model.now (certificate_for model.now raw.now)) }
 {

@@ -60,7 +60,7 @@ pub(crate) fn print_found(
     to.extend(b"END\n")
 }
 
-// That no point is feasible, and how many sides were found.
+// Appends the line that no point is feasible, and the line with the number of sides that were found.
 fn print_heading(alloc: Global, count: usize, to: &mut Bytes) -> Result<(), AllocError>
     ensures { OnOk result (to.new ≡ to.old ++ ((codes "INFEASIBLE\nIIS " ++ decimal count) ++ 10 ∷ [])) }
 {

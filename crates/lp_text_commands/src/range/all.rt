@@ -111,7 +111,7 @@ fn print_number(
     print_range(alloc, range_of(ranging, model, moved, at), to)
 }
 
-// Which number it is: the words of the command line that asks for its range alone.
+// Appends the words for the number whose range follows, as a command line for this range alone has them.
 fn print_words(model: &Model, moved: Moved, at: u32, to: &mut Bytes) -> Result<(), AllocError>
     requires { at < count_by moved model.now }
     ensures { OnOk result

@@ -33,7 +33,7 @@ impl Command for SolveWide {
 
     ghost is_written = { λ _ m end is. (end, is, refl) };
 
-    // Solves the model exactly.
+    // Solves the model exactly, with the budget that a session opens with.
     fn run(&self, alloc: Global, model: &Model) -> Result<ExactEnd, AllocError> {
         solve_exactly(alloc, model, OPENING_BUDGET, None)
     }
