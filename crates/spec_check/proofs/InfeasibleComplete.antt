@@ -73,7 +73,7 @@ row_all m y i s h = by (lt_ℚ 0ℚ d) (lt_ℚ d 0ℚ) refl refl
         (upper_all (row m i)) (weighed_at_all 1 d l.upper w.0 s w.1)
     by false false p q = nothing s d
 
--- where column j has the bound that the multipliers' part asks for, the run adds the part times that bound
+-- where column j has the bound that goes with the sign of the multipliers' part, the run adds the part times that bound
 column_all : (m : Model) (y : List ℚ) (j : ℕ) (s : ℚ) → HasLimit (turned_limits (bounds m j)) (priced m y j)
     → column_gives_run None m y j s ≡ Ok (s +ℚ priced m y j *ℚ asked (turned_limits (bounds m j)) (priced m y j))
 column_all m y j s h =

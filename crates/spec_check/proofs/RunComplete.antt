@@ -11,6 +11,8 @@ use Rattle.spec_check.proofs.OptimalComplete.{optimal_all}
 use Rattle.spec_check.proofs.InfeasibleComplete.{infeasible_all, clash_all}
 use Rattle.spec_check.proofs.UnboundedComplete.{unbounded_all}
 
+-- where a certificate meets all conditions for the model, the check without a limit on numbers accepts it and tells
+-- what it shows
 pub run_complete : (m : Model) (cert : Certificate (List ℚ)) → Checks m cert → check_run None m cert ≡ Ok (shown m cert)
 unfolding check_run
 run_complete m (Optimal x y) h = optimal_all m x y h

@@ -12,6 +12,8 @@ use Rattle.spec_check.proofs.OptimalSound.{optimal_ok}
 use Rattle.spec_check.proofs.InfeasibleSound.{infeasible_ok, clash_ok}
 use Rattle.spec_check.proofs.UnboundedSound.{unbounded_ok}
 
+-- where the check accepts a certificate of the model's sizes, it meets all conditions, and what the check tells is what
+-- it shows
 pub run_sound : (limit : Option ℕ) (m : Model) (cert : Certificate (List ℚ)) (said : Known ℚ) → IsFor m cert →
     check_run limit m cert ≡ Ok said → Checks m cert × (said ≡ shown m cert)
 unfolding check_run

@@ -37,6 +37,7 @@ pub record StopsAt {A E : Type 0} (n : ℕ) (f : ℕ → A → Result A E) (a : 
   pub before : steps at f a ≡ Ok state
   pub stop : f at state ≡ Err e
 
+-- where n steps end with an error, one of them ends with it, after those before it succeeded
 pub stops_at : {A E : Type 0} (n : ℕ) (f : ℕ → A → Result A E) (a : A) (e : E) → steps n f a ≡ Err e → StopsAt n f a e
 stops_at {A} {E} zero f a e h = let z : ◌≡◌ {A = Result A E} (Ok a) (Err e) = h in cc
 stops_at (suc n) f a e h = by (then_err (steps n f a) (λ b. f n b) e h) (λ g. stops_at n f a e g)

@@ -44,7 +44,7 @@ used m (Clash j) = record { row = false; at = j; upper = false } ∷ record { ro
 used m (Optimal x y) = []
 used m (Unbounded x r) = []
 
--- those of some sides that a certificate uses, where the certificate is for the model with these sides alone
+-- the sides of a list that a certificate uses, where the certificate is for the model with these sides alone
 unfoldable pub used_among : Model → List Side → Certificate (List ℚ) → List Side
 used_among m sides cert = filter (λ s. is_listed (used (only m sides) cert) (renumbered sides s)) sides
 

@@ -1,9 +1,11 @@
 -- All cards of a text are those read so far and those still to come, line by line.
 --
 -- `whole_skip`: a comment or a blank line leaves all cards of the text as they are.
--- `whole_data`: a data card goes from the cards to come to those so far, of the section that is here.
--- `whole_heading`: a heading goes from the headings to come to those so far, and its section is the one that is here.
--- `whole_end`: at ENDATA all cards of the text are those so far.
+-- `whole_data`: reading a data card of the current section moves it from the cards that are to come to the cards that
+--   were read.
+-- `whole_heading`: reading a heading moves it from the headings to come to those that were read, and makes its section
+--   the current one.
+-- `whole_end`: at ENDATA all cards of the text are those that were read.
 -- `whole_is`: before the first line all cards to come are the cards of the whole text.
 use Rattle.std.proofs.Common.{◌≡◌, ℕ, Bool, true, false, Option, Some, None, List}
 use Rattle.std.proofs.Common.{◌∷◌, ◌++◌, sym, ap, ◌∙◌, subst, option_map}

@@ -1,7 +1,8 @@
 -- The bounds of columns, and what one more card of BOUNDS makes of them.
 --
 -- `new_bounded`: columns that no card has bounded have the bounds that no card says.
--- `bounds_card_says`: where the cards so far say the bounds, they do so with one more card that the reader takes.
+-- `bounds_card_says`: where the state's bounds are what the cards that were read say, they still are after one more
+--   card of BOUNDS.
 use Rattle.std.proofs.Common.{◌≡◌, ◌≢◌, ℕ, zero, suc, ◌+◌, ◌<◌, Bool, true, false, not, ◌&&◌, ◌||◌}
 use Rattle.std.proofs.Common.{cond, ltb, Option, Some, None, Ok, List, [], ◌∷◌, ◌++◌, length, map}
 use Rattle.std.proofs.Common.{refl, sym, ap, ◌∙◌, subst, subst₂, get_or, arith, append-nil, All}

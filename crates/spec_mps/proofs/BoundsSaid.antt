@@ -92,7 +92,7 @@ enter_new s x v t h k =
       unset = k.unset;
     })
 
--- marks that are all false stay so with one more that is false
+-- a list of tests that are all false stays one with a further false test
 unset_push : (lowered : List Bool) (j : ℕ) → ((i : ℕ) → get_or lowered i false ≡ false) →
     get_or (lowered ++ false ∷ []) j false ≡ false
 unset_push [] zero h = refl
@@ -149,7 +149,7 @@ bounds_same style cards s t seen columns lowered during k =
       during = during;
     }
 
--- a data card keeps the state's bounds what the cards so far say
+-- after a data card the state's bounds are still what the cards that were read say
 bounds_at_card : (limits : SizeLimits) (style : Style) (c : SoFar) (s t : State) (part : Section) (card : Fields) →
     IsOrdered s.part s.seen →
     s.part ≡ Some part → data_card limits style (Some part) s card ≡ Ok t → ColumnsSay c.columns s →
@@ -188,7 +188,7 @@ whole_headed s part word t h =
     let u = headed_leads (begun s part) part word t h in
     λ i. columns_with (ap (λ (x : State). x.columns) u i) (ap (λ (x : State). x.column) u i)
 
--- a heading keeps the state's bounds what the cards so far say
+-- after a heading the state's bounds are still what the cards that were read say
 bounds_at_heading : (style : Style) (cards : List Fields) (s t : State) (part : Section) (word : List ℕ) →
     has_begun s.seen part ≡ false → headed (begun s part) part word ≡ Ok t → BoundsSay style cards s →
     BoundsSay style cards t
@@ -206,7 +206,7 @@ bounds_at_heading style cards s t part word new h k =
 none_new : AreNew [] []
 none_new = record { bounds = All-nil IsNew; many = refl; unset = λ j. refl }
 
--- each state has the columns and the bounds that the cards so far say
+-- each state of the reader has the columns and the bounds that the cards say which were read
 bounds_kept : (limits : SizeLimits) (style : Style) → IsKept limits style (λ c s. ColumnsSay c.columns s × BoundsSay
     style c.bounds s)
 bounds_kept limits style =

@@ -11,8 +11,8 @@
 -- `columns_did`: a card of COLUMNS that is taken has a valid name, opens or continues that column, and enters its
 --   pairs.
 -- `card_did`: a card of RHS or RANGES that is taken uses its set's pairs, or is skipped because another set is used.
--- `rhs_did`: an RHS card that is taken puts its right sides, or is skipped because another set is used.
--- `ranges_did`: a RANGES card that is taken puts its ranges, or is skipped because another set is used.
+-- `rhs_did`: an RHS card that is accepted sets its right sides, or is skipped because another set is used.
+-- `ranges_did`: a RANGES card that is accepted sets its ranges, or is skipped because another set is used.
 -- `set_keeps`: what the choice of a set and each pair keep, a whole card of RHS or RANGES keeps.
 -- `bounds_did`: a card of BOUNDS that is taken has a kind and texts, and sets a column's bounds or is of an unused set.
 use Rattle.std.proofs.Common.{◌≡◌, ℕ, Bool, true, false, not, ◌||◌, cond, ltb, Option, Some, is_none, Ok, Err}
@@ -127,7 +127,7 @@ pairs_keep put run puts K f (pair ∷ pairs) done s t h k =
     subst (λ l. K l t) (append_assoc done (pair ∷ []) pairs)
     (pairs_keep put run puts K f pairs (done ++ pair ∷ []) a.0 t a.2 (f done s pair a.0 a.1 k))
 
--- a pair without fault put the number of its text at its name's target
+-- a pair that is accepted sets the number of its text at the row or the objective that its name stands for
 pair_did : (put : State → Target → ℚ → Check State) (s : State) (pair : List ℕ × List ℕ) (t : State) →
     (need (place_of s pair.0) code.UnknownRow >>= λ place. number_in pair.1 >>= λ v. put s place v) ≡ Ok t →
     PairDid put s pair t
@@ -165,7 +165,7 @@ side_puts =
 abbrev pub put_ranged : State → Target → ℚ → Check State
 put_ranged s place v = ranged_row place >>= λ row. put_range s row v
 
--- a pair of RANGES without fault put its number as the range of its name's target
+-- a pair of RANGES that is accepted sets its number as the range of the row that its name stands for
 range_did : (s : State) (pair : List ℕ × List ℕ) (t : State) → range_pair s pair.0 pair.1 ≡ Ok t →
     PairDid put_ranged s pair t
 unfolding range_pair

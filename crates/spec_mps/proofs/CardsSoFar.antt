@@ -8,7 +8,7 @@
 -- `data_plain`: a line with a blank in column 1 is no heading, and begins no section.
 -- `title_plain`: a line that is no heading leaves the heading to come as it is.
 -- `cards_skip`: a comment or a blank line leaves the cards to come as they are.
--- `cards_data`: a data card of the section that is here goes behind that section's cards so far.
+-- `cards_data`: a data card of the current section is appended to the cards of that section that were read.
 use Rattle.std.proofs.Common.{◌≡◌, ℕ, ◌+◌, Bool, true, false, not, ◌&&◌, cond}
 use Rattle.std.proofs.Common.{Option, Some, None, option_map, List, [], ◌∷◌, ◌++◌, map, take, drop}
 use Rattle.std.proofs.Common.{refl, sym, ap, ◌∙◌, append_assoc, add-one, add_comm}

@@ -7,9 +7,9 @@
 -- `not_named`: a name that differs from all named columns is on no card.
 -- `unnamed_pairs`: a column that no card names has no pairs.
 -- `none_named`: no cards name no columns.
--- `put_non_zero`: entries that are not 0 stay so with another such entry put among them.
--- `put_here`: a number put at a row that had no entry is the entry of that row.
--- `put_there`: a number put at one row leaves the entry of each other row.
+-- `put_non_zero`: entries that are not 0 stay so with another such entry inserted among them.
+-- `put_here`: a number that is set for a row without an entry is the entry of that row.
+-- `put_there`: a number that is set for one row leaves the entry of each other row.
 use Rattle.std.proofs.Common.{◌≡◌, ◌≢◌, ℕ, ◌≤◌, Bool, true, false, not, ◌||◌, cond, eqb, eq-eqb, ltb, List, []}
 use Rattle.std.proofs.Common.{◌∷◌, ◌++◌, length, map, refl, sym, ap, ◌∙◌, subst, arith, append-nil, All, Ok}
 use Rattle.std.specs.List.{filter, flat_map, list_any}

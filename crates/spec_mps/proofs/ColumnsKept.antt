@@ -1,7 +1,8 @@
 -- The columns, their costs and their coefficients are what the cards of COLUMNS say.
 --
 -- `all_whole`: where the whole columns and the open one have the numbers that the cards say, all columns have.
--- `columns_card_says`: where the cards so far say the columns, they do so with one more card that the reader takes.
+-- `columns_card_says`: where the state's columns are what the cards that were read say, they still are after one more
+--   card of COLUMNS.
 use Rattle.std.proofs.Common.{◌≡◌, ℕ, Bool, true, false, not, ◌||◌, cond, Option, Some}
 use Rattle.std.proofs.Common.{None, option_map, Ok, List, [], ◌∷◌, ◌++◌, map, refl, sym, ap, ◌∙◌, subst}
 use Rattle.std.proofs.Common.{subst₂, get_or, append_assoc, append-nil, All, IfSome, codes}

@@ -1,6 +1,6 @@
 -- The columns of a model, and their numbers, are what the cards of COLUMNS say.
 --
--- `columns_kept`: each card and heading keeps that the cards of COLUMNS so far say the state's columns.
+-- `columns_kept`: after each card and heading the state's columns are what the cards of COLUMNS say that were read.
 -- `columns_named`: the columns of a spelled model are those that the cards name, in that order.
 -- `coefficient_said`: each coefficient of a spelled model is the number that the cards give its column for its row.
 -- `cost_said`: each cost of a spelled model is the number that the cards give its column for the objective.
@@ -123,7 +123,7 @@ columns_stay section.Ranges s t e h =
 columns_stay section.End s t e h =
     record { column = ap (λ (u : State). u.column) h; columns = ap (λ (u : State). map without_bounds u.columns) h }
 
--- a data card keeps the state's columns what the cards so far say
+-- after a data card the state's columns are still what the cards that were read say
 columns_at_card : (limits : SizeLimits) (style : Style) (c : SoFar) (s t : State) (part : Section) (card : Fields) →
     IsOrdered s.part s.seen →
     s.part ≡ Some part → data_card limits style (Some part) s card ≡ Ok t → ColumnsSay c.columns s →
@@ -159,7 +159,7 @@ seen_before section.Ranges seen h = h
 seen_before section.Bounds seen h = h
 seen_before section.End seen h = h
 
--- a heading keeps the state's columns what the cards so far say
+-- after a heading the state's columns are still what the cards that were read say
 columns_at_heading : (cards : List Fields) (s t : State) (part : Section) (word : List ℕ) →
     headed (begun s part) part word ≡ Ok t → ColumnsSay cards s → ColumnsSay cards t
 columns_at_heading cards s t part word h k =
@@ -194,7 +194,7 @@ columns_kept limits style =
 
 -- ---- the model
 
--- each state has the rows and the columns that the cards so far say
+-- each state of the reader has the rows and the columns that the cards say which were read
 rows_and_columns : (limits : SizeLimits) (style : Style) → IsKept limits style
     (λ c s. RowsSay c.rows (row_view s) × ColumnsSay c.columns s)
 rows_and_columns limits style =

@@ -59,7 +59,7 @@ in_other_case : {A : Type 0} (t : Bool) (first check other : Check A) → Extend
 in_other_case true first check other e = same_check first
 in_other_case false first check other e = e
 
--- a test, or a count below a limit, that passes does so with a greater limit
+-- a test that passes, or a count that is below a limit, does so with a greater limit too
 more_room : (t : Bool) (n few many : ℕ) → few ≤ many → (t || ltb n few) ≡ true → (t || ltb n many) ≡ true
 more_room true n few many l h = refl
 more_room false n few many l h = lt-ltb n many (omega (arith, ltb-true n few h))

@@ -3,7 +3,7 @@
 -- `word_is`: a word that the reader takes for a section is that section's word.
 -- `heading_is`: a line with a section's word in column 1 is the heading of that section and of no other.
 -- `cards_begin`: a heading makes its section the one that is here, and leaves all cards to come.
--- `title_begin`: a heading becomes its section's title, and leaves the titles of the others.
+-- `title_begin`: a heading becomes its section's title, and leaves the titles of all other sections.
 -- `cards_end`: behind ENDATA no cards are to come.
 -- `title_end`: behind ENDATA no headings are to come.
 use Rattle.std.proofs.Common.{sym, ◌≡◌, ℕ, Bool, true, false, not, ◌&&◌, ◌||◌, cond, Option, Some}

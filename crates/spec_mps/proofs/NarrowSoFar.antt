@@ -65,7 +65,7 @@ whole_narrow : (columns : List ExactColumn) (column : Option ExactColumn) → Al
 whole_narrow columns None h k = h
 whole_narrow columns (Some c) h k = All-push IsNarrowColumn columns c h k
 
--- a number of 127 bits that is put in leaves entries of 127 bits
+-- setting an entry to a number of 127 bits leaves entries of 127 bits
 put_narrow : (i : ℕ) (v : ℚ) (es : List (ℕ × ℚ)) → IsNarrow v → All (λ e. IsNarrow e.1) es →
     All (λ e. IsNarrow e.1) (put_entry i v es)
 put_narrow i v [] n h = All-cons (λ (e : ℕ × ℚ). IsNarrow e.1) (i, v) [] n h

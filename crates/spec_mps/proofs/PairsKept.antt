@@ -2,7 +2,7 @@
 --
 -- `number_is`: a text that the reader takes as a number is read as that number.
 -- `texts_none`: no pairs have no texts for a name.
--- `put_set`: a number put at a target leaves the set that is used.
+-- `put_set`: setting the number of a row or of the objective leaves the set that is used.
 use Rattle.std.proofs.Common.{◌≡◌, ℕ, Bool, true, false, cond, eqb→eq, eq-eqb, Some, Ok, List}
 use Rattle.std.proofs.Common.{[], ◌∷◌, ◌++◌, map, refl, sym, ap, ◌∙◌, subst, subst₂, append-nil, T}
 use Rattle.std.specs.List.{filter}

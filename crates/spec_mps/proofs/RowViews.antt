@@ -9,8 +9,9 @@
 -- `one_target`: two targets that one name stands for are the same.
 -- `objective_place`: the name of the objective stands for the objective.
 -- `all_count`: where each kind counts, each target counts.
--- `placed_objective`: a name that stands for a target does so after a first objective, whose name was not taken.
--- `placed_row`: a name that stands for a target does so after one more row.
+-- `placed_objective`: a name that stands for a row still stands for it after the first objective, whose name was not
+--   taken.
+-- `placed_row`: a name that stands for a row or the objective still stands for it after one more row.
 -- `placed_new`: the name of a new row, which was not taken, stands for that row.
 use Rattle.std.proofs.Common.{◌≡◌, ℕ, suc, ◌+◌, ◌<◌, ◌≤◌, Bool, true, false, not, cond}
 use Rattle.std.proofs.Common.{ltb, Option, Some, None, Ok, List, [], ◌∷◌, ◌++◌, length}

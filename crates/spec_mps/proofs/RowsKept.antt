@@ -1,6 +1,6 @@
 -- The objective and the rows are those that the cards of ROWS say.
 --
--- `rows_kept`: each card and heading keeps that the cards of ROWS so far say the state's objective and rows.
+-- `rows_kept`: after each card and heading the objective and the rows are what the cards of ROWS say that were read.
 -- `rows_said`: the kinds and names of a spelled model's rows are those on the cards, without the first row of type N.
 -- `objective_said`: the objective of a spelled model is the first row of type N on the cards.
 -- `row_place`: in a state whose rows are placed, the name of row i stands for row i.
@@ -160,7 +160,7 @@ row_push cards card s kind e free k = go (is_first s kind) refl
           placed = placed_push (row_view s) kind name free k.placed;
         })
 
--- a data card keeps the state's rows what the cards so far say
+-- after a data card the state's rows are still what the cards that were read say
 rows_card_kept : (limits : SizeLimits) (style : Style) (c : SoFar) (s t : State) (part : Section) (card : Fields) →
     data_card limits style (Some part) s card ≡ Ok t → RowsSay c.rows (row_view s) →
     RowsSay (with_card part card c).rows (row_view t)

@@ -8,7 +8,8 @@
 -- `cards_titled`: a heading adds no card to the cards of RHS and RANGES that were read so far.
 -- `cards_more`: a data card goes behind the cards of RHS or RANGES where it is one of that section.
 -- `cards_all`: the cards of RHS or RANGES of the whole text are those that its lines have in that section.
--- `set_card_did`: a card of RHS or RANGES that is taken puts its pairs, or is skipped because another set is used.
+-- `set_card_did`: a card of RHS or RANGES that is accepted sets the numbers of its pairs, or is skipped because another
+--   set is used.
 use Rattle.std.proofs.Common.{◌≡◌, true, false, Some, Ok, List, [], refl, sym, ◌∙◌, subst}
 use Rattle.spec_model.specs.declared.parts.SizeLimits.{SizeLimits}
 use Rattle.spec_mps.specs.declared.section.Section.{Section}

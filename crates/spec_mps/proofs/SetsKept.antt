@@ -7,7 +7,7 @@
 -- `same_set_true`: two sets that pass the reader's test are equal.
 -- `same_as`: the test of equal sets here is that of the reader.
 -- `used_push`: one more card adds its pairs to those of the set in use, if it is of that set.
--- `says_skipped`: a card of another set leaves that the cards so far say the numbers.
+-- `says_skipped`: after a card of another set the numbers are still what the cards that were read say.
 use Rattle.std.proofs.Common.{◌≡◌, ℕ, suc, ◌≤◌, Bool, true, false, ◌||◌, cond, Option, Some, None, Ok, Err, List, []}
 use Rattle.std.proofs.Common.{◌∷◌, ◌++◌, length, refl, sym, ap, ◌∙◌, subst, subst₂, arith, append-nil, append_assoc}
 use Rattle.std.specs.List.{filter, flat_map, list_any}

@@ -33,7 +33,7 @@ side_at = number_at neg_ℚ (λ r. r.rhs)
 
 -- ---- one pair
 
--- a right side that is read for a name's target is put at that target
+-- a right side that is read for a name is set for the row or the objective that the name stands for
 side_put : (s : State) (name : Name) (place : Target) (v : ℚ) (t : State) → place_of s name ≡ Some place →
     put_side s place v ≡ Ok t → Put ℚ side_at every_kind s place v t
 unfolding put_side

@@ -175,7 +175,7 @@ opens_sound s name t named (New other free few new) sound =
       narrow = new_narrow s.offset s.rows s.columns s.column sound.narrow name;
     })
 
--- the number of a pair that is put has 127 bits
+-- the number of a pair that is accepted has at most 127 bits
 pair_narrow : {put : State → Target → ℚ → Check State} {s : State} {pair : List ℕ × List ℕ} {t : State} →
     (p : PairDid put s pair t) → IsNarrow p.value
 pair_narrow {pair = pair} p = in_narrow pair.1 p.value p.number_is
@@ -228,7 +228,7 @@ row_sound {limits = limits} s t i change same_name small fit sound =
       narrow = row_narrow s.offset s.rows s.columns s.column sound.narrow i change small;
     }
 
--- a sound state stays sound where a pair of RHS is put
+-- a sound state stays sound after a pair of RHS
 put_side_sound : {limits : SizeLimits} (s : State) (pair : List ℕ × List ℕ) (t : State) → PairDid put_side s pair t →
     IsSound limits s → IsSound limits t
 unfolding put_side
@@ -261,7 +261,7 @@ ranged_fit (suc i) v (r ∷ rows) f h =
     All-cons HasFitRange r (changed_at i (λ r. record r { range = Some v }) rows) (All-head HasFitRange r rows h)
     (ranged_fit i v rows f (All-tail HasFitRange r rows h))
 
--- a sound state stays sound where a pair of RANGES is put
+-- a sound state stays sound after a pair of RANGES
 put_range_sound : {limits : SizeLimits} (s : State) (pair : List ℕ × List ℕ) (t : State) → PairDid put_ranged s pair t →
     IsSound limits s → IsSound limits t
 unfolding new_range

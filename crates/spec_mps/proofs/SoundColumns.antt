@@ -6,9 +6,9 @@
 -- `close_column`: where the open column has the shape of a kept one, all columns with it are columns of a kept model.
 -- `closed`: columns stay sound where the open column joins the whole ones.
 -- `with_new`: sound columns stay sound with a new open column that has a valid name, other than theirs, and room.
--- `number_name`: a number put into a column leaves its name.
+-- `number_name`: setting a number of a column leaves the column's name.
 -- `with_pair`: columns stay sound where the open column gets the number of an existing row that had none.
--- `bounded_name`: bounds put on a column leave its name.
+-- `bounded_name`: setting bounds of a column leaves the column's name.
 -- `with_bounds`: columns stay sound where a card with finite bounds below 10^20 in size changes one of them.
 use Rattle.std.proofs.Common.{◌≡◌, ◌≢◌, ℕ, zero, suc, ◌<◌, ◌≤◌, Bool, true, false, ◌&&◌, not, cond}
 use Rattle.std.proofs.Common.{Option, Some, None, option_map, List, [], ◌∷◌, ◌++◌, length, map}

@@ -34,7 +34,7 @@ use Rattle.spec_mps.proofs.CardsSoFar.{is_section, SoFar, with_card, or_else, wi
 use Rattle.spec_mps.proofs.Order.{IsOrdered, not_both}
 use Rattle.spec_mps.proofs.CardRuns.{IsKept, spelled_by, stays, headed_leads}
 
--- a heading marks its section as begun, and no other
+-- a heading notes its section as begun, and no other
 seen_stays : (s : State) (part : Section) (word : List ℕ) (t : State) → headed (begun s part) part word ≡ Ok t →
     t.seen ≡ with_section s.seen part
 seen_stays s part word t h = ap (λ (u : State). u.seen) (headed_leads (begun s part) part word t h)
@@ -68,12 +68,12 @@ named : (s : State) (word : List ℕ) (t : State) → headed s section.Name word
 named s word t h =
     let a = must_ok (is_model_name word) code.Name _ t h in sym (ap (λ (u : State). u.name) (same_ok _ t a.1))
 
--- with the same name and mark the name stays what the title says
+-- where the name stays, and whether NAME has begun, the name is still what the title says
 name_same : (title : Option Fields) (s t : State) → t.seen.name ≡ s.seen.name → t.name ≡ s.name →
     NameSays title s.seen.name s.name → NameSays title t.seen.name t.name
 name_same title s t e f k = record { none = λ h. k.none (sym e ∙ h); name_is = f ∙ k.name_is }
 
--- a heading keeps the state's name what the title so far says
+-- after a heading the state's name is still what the title says that was read
 name_at_heading : (c : SoFar) (s t : State) (part : Section) (words : Fields) → has_begun s.seen part ≡ false →
     headed (begun s part) part (text_at 2 words) ≡ Ok t → NameSays c.name_title s.seen.name s.name →
     NameSays (with_title part words c).name_title t.seen.name t.name
@@ -93,7 +93,7 @@ card_keeps_name : (part : Section) (s t : State) → Leads part s t → t.name �
 card_keeps_name section.Name s t h = ap (λ (u : State). u.name) h
 card_keeps_name part s t h = ap (λ (u : State). u.name) h
 
--- each state has the name that the title so far says
+-- each state of the reader has the name that the title says which was read
 name_kept : (limits : SizeLimits) (style : Style) → IsKept limits style (λ c s. NameSays c.name_title s.seen.name
     s.name)
 name_kept limits style =
@@ -166,7 +166,7 @@ sense_same : (title : Option Fields) (cards : List Fields) (s t : State) → t.s
 sense_same title cards s t e f k =
     record { none = λ h. k.none (sym e ∙ h); sense_is = subst (SenseIs (sense_words title cards)) (sym f) k.sense_is }
 
--- a data card keeps the state's sense what the words so far say
+-- after a data card the state's sense is still what the words say that were read
 sense_at_card : (limits : SizeLimits) (style : Style) (c : SoFar) (s t : State) (part : Section) (card : Fields) →
     IsOrdered s.part s.seen →
     s.part ≡ Some part → data_card limits style (Some part) s card ≡ Ok t →
@@ -211,7 +211,7 @@ none_said : (sense : Option Sense) → SenseIs (sense_words None []) sense → s
 unfolding sense_words
 none_said sense k = k
 
--- a heading keeps the state's sense what the words so far say
+-- after a heading the state's sense is still what the words say that were read
 sense_at_heading : (c : SoFar) (s t : State) (part : Section) (words : Fields) → has_begun s.seen part ≡ false →
     headed (begun s part) part (text_at 2 words) ≡ Ok t → SenseSays c.sense_title c.senses s.seen.sense s.sense →
     SenseSays (with_title part words c).sense_title c.senses t.seen.sense t.sense
@@ -235,7 +235,7 @@ nothing_said : SenseIs (sense_words None []) None
 unfolding sense_words
 nothing_said = refl
 
--- each state has the sense that the words so far say
+-- each state of the reader has the sense that the words say which were read
 sense_kept : (limits : SizeLimits) (style : Style) → IsKept limits style (λ c s. SenseSays c.sense_title c.senses
     s.seen.sense s.sense)
 sense_kept limits style =

@@ -63,7 +63,7 @@ paired_by paired (e ∷ es) = paired_by (Row e.0 ∷ paired) es
 abbrev entry_card : Model → ExactColumn → ℕ × ℚ → WrittenCard
 entry_card m c e = number_card c.name (row m e.0).name e.1
 
--- the written card of an entry puts it behind the open column's other entries
+-- reading the written card of an entry adds the entry behind the current column's other entries
 entry_goes : (style : Style) (m : Model) (s : State) (c : ExactColumn) (columns : List ExactColumn)
     (lowered : List Bool) (es : List (ℕ × ℚ)) (e : ℕ × ℚ) (paired : List Target) → IsModel m → IsWithin m s
     → e.0 < length m.rows →
@@ -81,7 +81,7 @@ entry_goes style m s c columns lowered es e paired kept within inside card z bel
     (entered before (with_entries c es) (Row e.0) e.1 refl (not_paired e.0 paired p)
     ∙ ap after (entry_put (bare_column c) es e z below))
 
--- the written cards of entries put them behind the open column's other entries
+-- reading the written cards of entries adds the entries behind the current column's other entries
 entries_go : (style : Style) (m : Model) (s : State) (c : ExactColumn) (columns : List ExactColumn)
     (lowered : List Bool) (low : ℕ) (es rest : List (ℕ × ℚ)) (paired : List Target) →
     IsModel m → IsWithin m s → is_name c.name ≡ true
@@ -190,7 +190,7 @@ not_open columns (Some c) name h =
 
 -- ---- all columns
 
--- the written cards of columns and the heading RHS put the columns behind those before
+-- reading the written cards of columns and the heading RHS adds the columns behind those before
 columns_go : (style : Style) (m : Model) (s : State) (cs columns : List ExactColumn)
     (column : Option ExactColumn) (lowered : List Bool) (paired : List Target) → IsModel m → IsWithin m s
     → All (IsKeptColumn (length m.rows)) cs → All IsNarrowColumn cs →

@@ -90,7 +90,7 @@ not_paired i [] h = refl
 not_paired i (Objective ∷ ts) h = not_paired i ts h
 not_paired i (Row j ∷ ts) h = grind (arith, not_paired i ts h.1)
 
--- a number of a row above those of all entries is put behind them
+-- a number of a row above those of all entries is inserted behind them
 put_behind : (i : ℕ) (v : ℚ) (es : List (ℕ × ℚ)) → AreBelow i es → put_entry i v es ≡ es ++ (i, v) ∷ []
 put_behind i v [] h = refl
 put_behind i v (e ∷ es) h =

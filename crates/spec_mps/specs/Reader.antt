@@ -22,7 +22,7 @@ use Rattle.spec_mps.specs.Fields.{Fields, text_at}
 use Rattle.spec_mps.specs.Checks.{Check, ◌>>=◌, must, need, coded}
 use Rattle.spec_mps.specs.Shapes.{row_type_of, shaped}
 
--- what was read so far: the state of the reader
+-- the state of the reader of a model's text: what its lines gave up to here
 pub record State : Type 0 where
   pub part : Option Section  -- the section of the next data card
   pub seen : Seen

@@ -12,6 +12,7 @@ use Rattle.spec_pivot.specs.Simplex.{sign, Table, ray}
 use Rattle.spec_pivot.proofs.Pivot.{by_eq, delta_same, delta_other, sum_below-delta}
 use Rattle.spec_pivot.proofs.Unique.{apart}
 
+-- the number delta i r is delta r i: 1 where i is r, and else 0
 pub delta_sym : (i r : ℕ) → delta i r ≡ delta r i
 delta_sym i r =
     by_eq i r (λ e. subst (λ r. delta i r ≡ delta r i) e refl)

@@ -16,6 +16,7 @@ use Rattle.spec_pivot.proofs.Ray.{ray_basic}
 use Rattle.spec_pivot.proofs.AnyMove as any
 pub use Rattle.spec_pivot.proofs.AnyMove.{outside}
 
+-- a column that can move up or down is not basic
 pub not_basic : (way : Way) (s : Status) → CanMove way s → ¬ (s ≡ Basic)
 not_basic Up s c e = subst (CanMove Up) e c
 not_basic Down s c e = subst (CanMove Down) e c

@@ -30,7 +30,8 @@ use Rattle.spec_presolve.specs.Reduce.{Reductions, or_old, tightened, shifted, a
 use Rattle.spec_presolve.proofs.NextReduction.{Goes, what_goes}
 use Rattle.spec_presolve.proofs.After.{fixed_parts}
 
--- where a given bound is below 10^20 and narrow, and the old one may be kept, the one taken may be kept
+-- where a given bound is below 10^20 and has at most 127 bits, and the old bound may be kept, the bound that is taken
+-- may be kept
 bound_or_old : (o old : Option ℚ) → IfSome o (λ q. abs_ℚ q <ℚ whole (pos (10 ^ 20))) → IfSome o IsNarrow → IsBound old →
     IfSome old IsNarrow → IsKeptBound (or_old o old)
 bound_or_old None old h k b n = (b, n)

@@ -18,6 +18,7 @@ use Rattle.spec_simplex.proofs.FormOfModel.{HasBounds}
 use Rattle.spec_runs.proofs.EndTight.{within_structural, within_logical, tight_structural}
 use Rattle.spec_runs.proofs.EndTight.{tight_logical, weight_at, column_at, logical_is_row}
 
+-- a value within a lower and an upper bound that are both 0 is 0
 pub zero_inside : (l u : Option ℚ) (v : ℚ) → l ≡ Some 0ℚ → u ≡ Some 0ℚ → IsInside l u v → v ≡ 0ℚ
 zero_inside l u v p q i =
     ≤ℚ_antisym v 0ℚ (subst (λ o. IfSome o (λ k. v ≤ℚ k)) q i.upper) (subst (λ o. IfSome o (λ k. k ≤ℚ v)) p i.lower)

@@ -25,6 +25,7 @@ use Rattle.spec_runs.proofs.EndTight.{bounds_structural, bounds_logical, limits_
 use Rattle.spec_runs.proofs.EndOptimal.{point_feasible}
 use Rattle.spec_simplex.proofs.Rays.{allowed, falls}
 
+-- a change that a lower and an upper bound of 0 allow without end is 0
 zero_allowed : (l u : Option ℚ) (r : ℚ) → l ≡ Some 0ℚ → u ≡ Some 0ℚ → Allows (record { lower = l; upper = u }) r →
     r ≡ 0ℚ
 zero_allowed l u r p q a =

@@ -27,6 +27,7 @@ use Rattle.spec_simplex.specs.Eliminate.{eliminate_run, with_basis, position_run
 use Rattle.spec_simplex.specs.Fit.{below_lower, above_upper, outside_by, outside_run, leaving_at}
 use Rattle.spec_simplex.specs.Fit.{leaving_with, leaving_run, needs_flip_at, fit_run}
 
+-- two runs agree that both end because the basis is singular
 singular_agrees : {A : Type 0} → Agrees {A = A} start.Past (Err start.Singular) (Err start.Singular)
 singular_agrees =
     agrees_err start.Past start.Singular (λ p e. let z : ◌≡◌ {A = StartStop ℚ} start.Singular (start.Past p) = e in cc)

@@ -50,7 +50,7 @@ words_alone : (words : List (List ℕ)) → IsLineAlone (addressed_by Alone word
 words_alone [] = tt
 words_alone (word ∷ words) = refl
 
--- where an addressed command is for session 0, it is so whether a test drops it or keeps it
+-- where an addressed command is for session 0, the command that a test keeps of it, if any, is for session 0
 text_alone : (t : Bool) (found : Option (Asked ExactCommand)) → IsLineAlone found → IsLineAlone (cond t None found)
 text_alone true found h = tt
 text_alone false found h = h
@@ -64,14 +64,14 @@ line_alone (line.Long len) = refl
 line_alone line.End = tt
 line_alone line.Over = tt
 
--- what is pending behind a command for session 0 is of session 0
+-- the text or certificate that begins behind a command for session 0 is of session 0
 begun_alone : (session : ℕ) (c : ExactCommand) → session ≡ 0 → IsPendingAlone (begun session c)
 begun_alone session (Load form) h = h
 begun_alone session Check h = h
 begun_alone session (Plain asked) h = tt
 begun_alone session (Bad fault) h = tt
 
--- what is pending behind an addressed command for session 0, or behind none, is of session 0
+-- the text or certificate that begins behind an addressed command for session 0, or behind none, is of session 0
 begun_by_alone : (found : Option (Asked ExactCommand)) → IsLineAlone found → IsPendingAlone (begun_by found)
 begun_by_alone None h = tt
 begun_by_alone (Some addressed) h = begun_alone addressed.session addressed.ask h
@@ -90,7 +90,7 @@ asks_by_alone (Some addressed) h = command_alone addressed.session addressed.ask
 
 -- ---- any line
 
--- where what is pending is of session 0, it is so if a test ends it or not
+-- where the unfinished text or certificate is of session 0, what a test leaves of it is of session 0
 pending_alone : (t : Bool) (p : Pending) → IsPendingAlone p → IsPendingAlone (cond t Between p)
 pending_alone true p h = tt
 pending_alone false p h = h
@@ -100,7 +100,7 @@ body_alone : (t : Bool) (asked : Asked ExactAsk) → IsAlone asked → AreAlone 
 body_alone true asked h = (h, tt)
 body_alone false asked h = tt
 
--- where what is pending is of session 0, what is pending behind a line that names no session is too
+-- where the unfinished text or certificate is of session 0, so is that behind a line that names no session
 after_line_alone : (p : Pending) (next : Line (List ℕ)) → IsPendingAlone p →
     IsPendingAlone (pending_after_line Alone p next)
 after_line_alone Between next h = begun_by_alone (addressed_in Alone next) (line_alone next)
@@ -109,14 +109,14 @@ after_line_alone (Text session form body) next h =
 after_line_alone (Certificate session body) next h =
     pending_alone (ends_certificate next) (Certificate session (body ++ next ∷ [])) h
 
--- where what is pending is of session 0, the requests of a line that names no session are too
+-- where the unfinished text or certificate is of session 0, so is the request of a line that names no session
 of_line_alone : (p : Pending) (next : Line (List ℕ)) → IsPendingAlone p → AreAlone (asks_of_line Alone p next)
 of_line_alone Between next h = asks_by_alone (addressed_in Alone next) (line_alone next)
 of_line_alone (Text session form body) next h = body_alone (ends_text next) (record { session = session; ask = _ }) h
 of_line_alone (Certificate session body) next h =
     body_alone (ends_certificate next) (record { session = session; ask = _ }) h
 
--- where what is pending is of session 0, the requests of lines that name no session are too
+-- where the unfinished text or certificate is of session 0, so are the requests of lines that name no session
 asks_alone : (p : Pending) (lines : List (Line (List ℕ))) → IsPendingAlone p → AreAlone (asks_from Alone p lines)
 asks_alone p [] h = tt
 asks_alone p (next ∷ lines) h =

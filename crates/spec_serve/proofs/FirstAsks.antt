@@ -24,7 +24,7 @@ first_trans xs ys zs h k =
 
 -- ---- up to QUIT
 
--- where the requests up to QUIT are the first of some, they are so with one request before both, QUIT or not
+-- where the requests up to QUIT come first among some, they still do with one request, QUIT or not, before both
 first_if : (t : Bool) (a : Asked ExactAsk) (asks : Asks) → AreFirstOf (up_to_quit asks) asks →
     AreFirstOf (a ∷ cond t [] (up_to_quit asks)) (a ∷ asks)
 first_if true a asks h = (asks, refl)
@@ -50,7 +50,7 @@ of_read : (after : Option (List ℕ)) (read : List ℕ) (P : List ℕ → Type 0
 of_read after read P (inl h) = h.1
 of_read after read P (inr h) = subst P (append-nil read) (h [])
 
--- the requests of a link's exchanges are the first of those that the bytes read of it ask
+-- the requests of a link's exchanges come first among those in the bytes that were read of it
 served_first : (places : ℕ) (s : Streams) (exchanges : List Exchange) (moves : LinkMoves places s exchanges) →
     AreFirstOf (map asked_in exchanges) (link_asks_of moves.read).asks
 served_first places s exchanges moves =

@@ -3,7 +3,8 @@
 -- `link_kept`: the requests of a link hold models and numbers that may be kept.
 -- `ended_link_kept`: the requests of a link's ended lines hold models and numbers that may be kept.
 -- `served_kept`: the requests that were served hold models and numbers that may be kept.
--- `served_front_kept`: so do the requests of the first exchanges of those that were served.
+-- `served_front_kept`: the requests of the first exchanges of those that were served hold models and numbers that may
+--   be kept.
 use Rattle.std.proofs.Common.{ℕ, List, [], ◌∷◌, ◌++◌, map, subst}
 use Rattle.std.proofs.lemmas.List.{map-append}
 use Rattle.std.proofs.lemmas.List.Elements.{All-nil, All-cons, All-head, All-tail}
@@ -26,7 +27,7 @@ front_kept [] ys h = All-nil IsKept
 front_kept (a ∷ xs) ys h =
     All-cons IsKept a xs (All-head IsKept a (xs ++ ys) h) (front_kept xs ys (All-tail IsKept a (xs ++ ys) h))
 
--- where what asks hold may be kept, so may what the first of them hold
+-- where the models and edits of requests may be kept, so may those of the first of them
 first_kept : (first all : Asks) → AreFirstOf first all → AreKept all → AreKept first
 first_kept first all h kept = front_kept first h.0 (subst AreKept h.1 kept)
 

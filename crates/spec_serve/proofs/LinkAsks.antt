@@ -3,10 +3,10 @@
 -- `begins_whole`: the requests of all lines that were read are the first of the bytes' requests, where no more bytes
 --   come.
 -- `first_asks`: where the first requests of the bytes have no `QUIT`, they are the first of the link's requests.
--- `asks_at_end`: where no line that was read asks `QUIT`, the link's requests are those of all its lines.
--- `asks_past`: where more is read than may be and no ended line asks `QUIT`, the link's requests are those of its ended
+-- `asks_at_end`: where no line that was read is `QUIT`, the link's requests are those of all its lines.
+-- `asks_past`: where more is read than may be and no ended line is `QUIT`, the link's requests are those of its ended
 --   lines.
--- `ended_asks`: where no ended line asks `QUIT`, the requests of these lines are those of the link's ended lines.
+-- `ended_asks`: where no ended line is `QUIT`, the requests of these lines are those of the link's ended lines.
 use Rattle.std.proofs.Common.{◌≡◌, ℕ, ◌^◌, ◌≤◌, ◌<◌, ◌-◌, ◌+◌, true, false, List, [], ◌∷◌, ◌++◌}
 use Rattle.std.proofs.Common.{length, take, ap, sym, ◌∙◌, append-nil, subst, arith, ⊎_elim, length-append}
 use Rattle.std.proofs.lemmas.Bool.{cases_lt}
@@ -87,13 +87,13 @@ module _ (raw : List ℕ) (lines : List (Line (List ℕ))) (within : length raw 
 
 -- ---- the first asks up to QUIT
 
--- where requests are the first of those of bytes, a link asks them and the rest, up to QUIT
+-- where requests are the first of those in bytes, the link's requests are they and the later ones, up to QUIT
 link_asks : {asks : List (Asked ExactAsk)} {bytes : List ℕ} (b : AsksBegin asks bytes) →
     link_asks_of bytes ≡ until_quit (record { asks = asks ++ b.rest; ending = b.ending })
 unfolding link_asks_of
 link_asks b = ap until_quit b.is
 
--- where requests are the first ones up to QUIT of those of bytes, they are the first that a link of the bytes asks
+-- where requests come first among those of bytes up to QUIT, they come first among the requests of a link of the bytes
 as_first : {asks : List (Asked ExactAsk)} {bytes : List ℕ} (b : AsksBegin asks bytes) →
     AreFirstOf asks (up_to_quit (asks ++ b.rest)) → AreFirstOf asks (link_asks_of bytes).asks
 as_first {asks} b first =

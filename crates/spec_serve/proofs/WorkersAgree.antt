@@ -13,7 +13,7 @@ abbrev asks_of : ℕ → List (Asked ExactAsk) → List ExactAsk
 asks_of session asks =
     map (λ (a : Asked ExactAsk). a.ask) (filter (λ (a : Asked ExactAsk). nat_eq a.session session) asks)
 
--- what a session is asked in exchanges with one more before them, or not, is what it is asked by their asks
+-- the requests of a session in exchanges with one more before them, or not, are those of the session among all requests
 asked_more : (session : ℕ) (x : Exchange) (xs : List Exchange) (t : Bool) →
     map (λ (y : Exchange). y.ask) (of_session session xs) ≡ asks_of session (map asked_in xs) →
     map (λ (y : Exchange). y.ask) (cond t (x ∷ of_session session xs) (of_session session xs))
@@ -23,7 +23,7 @@ asked_more : (session : ℕ) (x : Exchange) (xs : List Exchange) (t : Bool) →
 asked_more session x xs true more = ap (λ zs. x.ask ∷ zs) more
 asked_more session x xs false more = more
 
--- what a session is asked in its exchanges is what the requests of all exchanges ask of it
+-- the requests of a session's exchanges are those of the session among the requests of all exchanges
 asked_of : (session : ℕ) (xs : List Exchange) →
     map (λ (x : Exchange). x.ask) (of_session session xs) ≡ asks_of session (map asked_in xs)
 asked_of session [] = refl

@@ -13,7 +13,7 @@ use Rattle.spec_server.proofs.Simply.{Does, WantsMemory, step_simply}
 abbrev Fits : State → Type 0
 Fits state = LastFits state.model state.last
 
--- where the last answer fits the model that is held, it does so after a solve
+-- where the last answer fits the model that is held, it still does after a solve
 solve_fits : (old new : State) (replied : ExactReply) (held : Option Model) → old.model ≡ held → Fits old →
     Does old (solve_due old held) replied new → Fits new
 solve_fits old new replied None e fits h = subst Fits (sym h.1) fits
@@ -22,25 +22,25 @@ solve_fits old new replied (Some m) e fits h =
     let allowed : LastFits (Some m) kept.last = (old.budget, h.may_answer) in
     subst Fits (sym h.kept) (subst (λ (model : Option Model). LastFits model kept.last) (sym e) allowed)
 
--- where the last answer fits the model that is held, it does so after a wide solve
+-- where the last answer fits the model that is held, it still does after a wide solve
 wide_fits : (old new : State) (replied : ExactReply) (held : Option Model) → Fits old →
     Does old (wide_due old held) replied new → Fits new
 wide_fits old new replied None fits h = subst Fits (sym h.1) fits
 wide_fits old new replied (Some m) fits h = subst Fits (sym h.stays) fits
 
--- where the last answer fits the model that is held, it does so after an edit of a model, made or refused
+-- where the last answer fits the model that is held, it still does after an edit, which is made or refused
 edit_fits : (old new : State) (replied : ExactReply) (r : OrFault Model) → Fits old →
     Does old (edit_due old r) replied new → Fits new
 edit_fits old new replied (Ok m) fits h = subst Fits (sym h.1) tt
 edit_fits old new replied (Err why) fits h = subst Fits (sym h.1) fits
 
--- where the last answer fits the model that is held, it does so after an edit, with a model or without
+-- where the last answer fits the model that is held, it still does after an edit, with a model or without
 change_fits : (old new : State) (replied : ExactReply) (held : Option Model) (e : ExactEdit) → Fits old →
     Does old (change_due old held e) replied new → Fits new
 change_fits old new replied None e fits h = subst Fits (sym h.1) fits
 change_fits old new replied (Some m) e fits h = edit_fits old new replied (edited m e) fits h
 
--- where the last answer fits the model that is held, it does so after what is due to a request
+-- where the last answer fits the model that is held, it still does after what the session does for a request
 does_fit : (old new : State) (asked : ExactAsk) (replied : ExactReply) → Fits old →
     Does old (due old asked) replied new → Fits new
 does_fit old new (ask.Plain (command.Write form)) replied fits h = subst Fits (sym h.1) fits

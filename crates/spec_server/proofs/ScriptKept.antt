@@ -39,14 +39,14 @@ none_kept = All-nil (λ (a : Asked ExactAsk). IsKeptAsk a.ask)
 one_kept : (a : Asked ExactAsk) → IsKeptAsk a.ask → AreKept (a ∷ [])
 one_kept a h = All-cons (λ (a : Asked ExactAsk). IsKeptAsk a.ask) a [] h none_kept
 
--- the ask that a text with a verdict makes holds a usual model, or none
+-- the request that a text with a verdict makes holds a usual model, or none
 verdict_kept : (style : Style) (lines : List (Line (List ℕ))) (v : Verdict) →
     judge usual_limits style start 1 lines ≡ v →
     IsKeptAsk (ask_of_verdict v)
 verdict_kept style lines (Spelled m) e = usual_from_within m (spelled_kept usual_limits style lines m e)
 verdict_kept style lines (Refused n fault) e = tt
 
--- the ask that a judged certificate makes holds no model or edit that may not be kept
+-- the request that a judged certificate makes holds no model or edit that may not be kept
 judgement_kept : (j : certificate.Judgement) → IsKeptAsk (ask_of_judgement j)
 judgement_kept (certificate.Spelled raw) = tt
 judgement_kept (certificate.Refused n) = tt

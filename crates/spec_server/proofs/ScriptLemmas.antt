@@ -5,7 +5,7 @@
 -- `pending_after-append`: what is pending after two lists of lines is what is pending after the second from the first's
 --   end.
 -- `line_is_kept`: the command of any line is to a session of at most 64, and its numbers may be kept.
--- `asked_session`: an ask that a line behind others gives is of a session of at most 64.
+-- `asked_session`: the request that a line behind others completes is of a session of at most 64.
 use Rattle.std.proofs.Common.{◌≡◌, ◌≤◌, ℕ, Bool, true, false, ◌&&◌, not, cond, Option, Some, None, Ok, Err, IfOk, List}
 use Rattle.std.proofs.Common.{[], ◌∷◌, ◌++◌, length, nat_le, nat_lt, refl, sym, ap, ◌∙◌, subst, append_assoc, arith}
 use Rattle.std.proofs.Common.{leb-true}
@@ -160,7 +160,8 @@ words_kept : (addressing : Addressing) (words : List (List ℕ)) → IsKeptLine 
 words_kept addressing [] = tt
 words_kept addressing (word ∷ words) = addressed_from_kept addressing word words
 
--- of two addressed commands for sessions of at most 64 with edits that may be kept, the one that a test takes is so
+-- of two addressed commands that a test chooses from, each for a session of at most 64 with an edit that may be kept,
+-- the chosen one is such
 choice : (t : Bool) (a b : Option (Asked ExactCommand)) → IsKeptLine a → IsKeptLine b → IsKeptLine (cond t a b)
 choice true a b h k = h
 choice false a b h k = k
@@ -187,12 +188,12 @@ begun_by_numbered : (found : Option (Asked ExactCommand)) → IsKeptLine found �
 begun_by_numbered None h = tt
 begun_by_numbered (Some addressed) h = begun_numbered addressed.session addressed.ask h.0
 
--- where what is pending is of a session of at most 64 in both ways, it is so in the one that a test takes
+-- where two unfinished texts or certificates are of sessions of at most 64, so is the one that a test chooses
 pending_choice : (t : Bool) (a b : Pending) → IsNumbered a → IsNumbered b → IsNumbered (cond t a b)
 pending_choice true a b h k = h
 pending_choice false a b h k = k
 
--- where what is pending is of a session of at most 64, what is pending behind one more line is so too
+-- where the unfinished text or certificate is of a session of at most 64, so is the one behind one more line
 line_numbered : (addressing : Addressing) (p : Pending) (next : Line (List ℕ)) → IsNumbered p →
     IsNumbered (pending_after_line addressing p next)
 line_numbered addressing Between next h =
@@ -202,7 +203,7 @@ line_numbered addressing (Text session form body) next h =
 line_numbered addressing (Certificate session body) next h =
     pending_choice (ends_certificate next) Between (Certificate session (body ++ next ∷ [])) tt h
 
--- where what is pending is of a session of at most 64, what is pending behind more lines is so too
+-- where the unfinished text or certificate is of a session of at most 64, so is the one behind more lines
 pending_numbered : (addressing : Addressing) (p : Pending) (lines : List (Line (List ℕ))) → IsNumbered p →
     IsNumbered (pending_after addressing p lines)
 pending_numbered addressing p [] h = h

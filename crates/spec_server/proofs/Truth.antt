@@ -85,7 +85,7 @@ accepted_is_true places old new raw reads said s =
 abbrev known_to : Known ℚ → ExactReply
 known_to said = reply.Known said
 
--- two known answers are the same where they are so as replies
+-- two answers are equal where they are equal as replies
 knowns_same : (a b : Known ℚ) → ◌≡◌ {A = ExactReply} (reply.Known a) (reply.Known b) → a ≡ b
 knowns_same a b e = cc
 

@@ -14,7 +14,7 @@ pub record Exchange : Type 0 where
   pub reads : List ExactRead
   pub reply : ExactReply
 
--- the ask of an exchange, with its session
+-- the request of an exchange, with its session
 abbrev pub asked_in : Exchange → Asked ExactAsk
 asked_in x = record { session = x.session; ask = x.ask }
 

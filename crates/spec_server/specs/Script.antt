@@ -53,7 +53,8 @@ ask_of_judgement (certificate.Refused n) = ask.Unfit n
 
 -- ---- a script, line by line
 
--- between two commands, or in the body of one, with the body's lines so far
+-- whether a script is between two commands, or in the text or certificate of one, with the lines of that which were
+-- read
 pub data Pending : Type 0 where
   Between : Pending
   Text : (session : ℕ) → (form : Style) → (body : List (Line (List ℕ))) → Pending

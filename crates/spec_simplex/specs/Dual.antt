@@ -64,7 +64,7 @@ abbrev pub dual_way_at : Tableau → ℕ → Way → ℕ → Option Way
 dual_way_at t p way k =
     if is_fixed (lower_at t k) (upper_at t k) then None else way_by (status_at t k) (directed way (entry_at t p k))
 
--- the cheaper of a new candidate and the best so far. Of equal ratios the earlier candidate stays
+-- the cheaper of a new candidate and the best one of those before, if there is one. Of equal ratios the earlier one stays
 abbrev pub cheaper_run : Option ℕ → Cheapest ℚ → Option (Cheapest ℚ) → Run (Option (Cheapest ℚ))
 cheaper_run limit new None = Ok (Some new)
 cheaper_run limit new (Some old) = order_run limit new.ratio old.ratio >>= λ o. Ok (Some (if is_lt o then new else old))

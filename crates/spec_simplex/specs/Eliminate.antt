@@ -43,7 +43,7 @@ pub record IsBasisOf (f : Form) (basis : List Status) : Type 0 where
 
 -- ---- elimination
 
--- the rows so far, and the basic column of each position that has one
+-- the state of the elimination of a basis: its rows, and the basic column of each position that has one
 pub record Elimination : Type 0 where
   pub rows : List (List ℚ)
   pub basic : List (Option ℕ)
@@ -65,7 +65,7 @@ has_none (Some k) = false
 abbrev pub is_open : Elimination → ℕ → ℕ → Bool
 is_open e j i = has_none (get_or e.basic i None) && not (eq_ℚ (at_place e.rows i j) 0ℚ)
 
--- the position found so far, or position i if it is free
+-- the position that was found before, or position i if none was and i is free
 abbrev pub or_place : Option ℕ → ℕ → Bool → Option ℕ
 or_place (Some p) i free = Some p
 or_place None i free = if free then Some i else None

@@ -41,8 +41,8 @@ leaving_at limit t k =
     outside_run limit (lower_at t k) (upper_at t k) (value_at t k) >>=
     λ out. Ok (option_map (λ way. record { col = k; direction = way }) out)
 
--- the leaving column so far, or column k if it is basic and outside its bounds. Nothing is compared after the first
--- one.
+-- the leaving column that was found before, or column k if it is basic and outside its bounds. Nothing is compared
+-- after the first one.
 abbrev pub leaving_with : Option ℕ → Tableau → ℕ → Option Leaving → Run (Option Leaving)
 leaving_with limit t k (Some x) = Ok (Some x)
 leaving_with limit t k None = if is_basic (status_at t k) then leaving_at limit t k else Ok None

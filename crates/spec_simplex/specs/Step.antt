@@ -31,7 +31,7 @@ way_by AtZero d = if lt_ℚ d 0ℚ then Some Up else (if lt_ℚ 0ℚ d then Some
 abbrev pub way_at : Tableau → ℕ → Option Way
 way_at t k = if is_fixed (lower_at t k) (upper_at t k) then None else way_by (status_at t k) (reduced_at t k)
 
--- the entering column so far, or column k where there is none and k may enter
+-- the entering column that was found before, or column k where none was and k may enter
 abbrev pub or_enters : Option Entering → ℕ → Option Way → Option Entering
 or_enters (Some e) k way = Some e
 or_enters None k None = None
@@ -88,7 +88,7 @@ better_by new best Less = new
 better_by new best Equal = if nat_lt new.col best.col then new else best
 better_by new best Greater = best
 
--- the better of a new ratio and the best so far
+-- the better of a new ratio and the best one of those before, if there is one
 abbrev pub better_run : Option ℕ → Best ℚ → Option (Best ℚ) → Run (Option (Best ℚ))
 better_run limit new None = Ok (Some new)
 better_run limit new (Some best) = order_run limit new.ratio best.ratio >>= λ o. Ok (Some (better_by new best o))

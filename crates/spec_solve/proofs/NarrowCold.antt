@@ -59,7 +59,8 @@ spent_narrow t used (End end) e h n =
 spent_narrow t used (Flip j) e h n = cc
 spent_narrow t used (Pivot p j theta to) e h n = cc
 
--- where each next step keeps a tableau's numbers narrow, a run ends at a tableau with numbers of at most 127 bits
+-- where each next step keeps a tableau's numbers within 127 bits, a run ends at a tableau with numbers of at most 127
+-- bits
 next_narrow : (t : Tableau) (used : ℕ) (next : Tableau → Result PrimalEnded (Spending ℚ)) (choice : Choice ℚ)
     (e : PrimalEnded) → end_or_next (Some number_limit) t used next choice ≡ Ok e → AreNarrow t
     → ((u : Tableau) → next u ≡ Ok e → AreNarrow u → AreNarrow e.tableau) → AreNarrow e.tableau
@@ -95,7 +96,7 @@ fixed_narrow n zero bounds h = h
 fixed_narrow n (suc m) bounds h =
     All-set NarrowBound (fixed_at_zero n m bounds) (n + m) (Some 0ℚ) zero_narrow (fixed_narrow n m bounds h)
 
--- phase two begins with numbers of at most 127 bits, where the form and the tableau before have such
+-- phase two begins with numbers of at most 127 bits, where those of the form and of the tableau before have at most 127
 two_narrow : (f : Form) (t u : Tableau) → phase_two_run (Some number_limit) f t ≡ Ok u → IsNarrowForm f → AreNarrow t →
     AreNarrow u
 unfolding phase_two_run
@@ -115,7 +116,7 @@ abbrev NarrowEnd : PhasesEnd → Type 0
 NarrowEnd (Infeasible t used) = AreNarrow t
 NarrowEnd (Finished e) = AreNarrow e.tableau
 
--- phase one ends with numbers of at most 127 bits where it begins with such
+-- phase one ends with numbers of at most 127 bits where it begins with numbers of at most 127 bits
 one_phase_narrow : (budget : ℕ) (t : Tableau) (e : PrimalEnded) → phase_one (Some number_limit) budget t ≡ Ok e →
     AreNarrow t → AreNarrow e.tableau
 one_phase_narrow budget t e h n = by (wants_phase_one t) h

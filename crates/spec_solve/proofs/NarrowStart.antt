@@ -2,11 +2,12 @@
 -- with, at the limit of the program.
 --
 -- `one_narrow`: the number 1 is within 127 bits.
--- `least_narrow`: a cost within 127 bits is so too with the sign of the sense.
+-- `least_narrow`: a cost of at most 127 bits has at most 127 bits with the sign of the sense.
 -- `form_narrow`: the form of a model whose numbers are within 127 bits has such numbers.
--- `form_entry_narrow`: each entry of a form whose numbers are within 127 bits is so too.
+-- `form_entry_narrow`: each entry of a form whose numbers have at most 127 bits has at most 127 bits.
 -- `row_start_narrow`: what a row begins with, where nothing is refused at 127 bits, is within them.
--- `one_at_narrow`: a number within 127 bits at one place, and 0 at all others, is so at each place.
+-- `one_at_narrow`: where v has at most 127 bits, so has each number of the list with v at one place and 0 at all
+--   others.
 -- `priced_narrow`: reduced costs of costs within 127 bits, where nothing is refused, are within 127 bits.
 -- `start_narrow`: the first tableau of a form whose numbers are within 127 bits has such numbers.
 use Rattle.std.proofs.Common.{◌≡◌, ◌+◌, ◌-◌, ℕ, suc, Bool, true, false, cond, Option, Some, None, Ok, List, [], ◌∷◌}
