@@ -72,7 +72,7 @@ verdict_effect : (v : Verdict) → effect_of_text v ≡ effect_of (ask_of_verdic
 verdict_effect (Spelled m) = refl
 verdict_effect (Refused n fault) = refl
 
--- the ask that a judged certificate makes keeps its session's model
+-- the request that a judged certificate makes keeps its session's model
 judgement_effect : (j : certificate.Judgement) → keeps ≡ effect_of (ask_of_judgement j)
 judgement_effect (certificate.Spelled raw) = refl
 judgement_effect (certificate.Refused n) = refl
@@ -84,7 +84,7 @@ if_asked : (t : Bool) (session : ℕ) (effect : Effect) (asked : ExactAsk) → e
 if_asked true session effect asked e = ap (λ (f : Effect). asked_of session (f ∷ [])) e
 if_asked false session effect asked e = refl
 
--- what a line asks of models is what the line's asks do to them
+-- the effects of a line on models are those of the requests that the line completes
 line_effects : (addressing : Addressing) (p : Pending) (next : Line (List ℕ)) →
     asked_in_line addressing p next ≡ map asking_of (asks_of_line addressing p next)
 line_effects addressing Between next = by_effects (addressed_in addressing next)
@@ -93,7 +93,8 @@ line_effects addressing (Text session form body) next =
 line_effects addressing (Certificate session body) next =
     if_asked (ends_certificate next) session keeps _ (judgement_effect (certificate.judge None 1 (body ++ next ∷ [])))
 
--- what lines ask of models, from a pending text or certificate on, is what the lines' requests do to them
+-- the effects of lines on models, from an unfinished text or certificate on, are those of the requests that they
+-- complete
 pub asked_from-is : (addressing : Addressing) (p : Pending) (lines : List (Line (List ℕ))) →
     asked_from addressing p lines ≡ map asking_of (asks_from addressing p lines)
 asked_from-is addressing p [] = refl

@@ -134,7 +134,7 @@ Agrees m (Some (Ok handed)) verdict =
 Agrees m (Some (Err (fault.Text why))) verdict = ⊥
 Agrees m (Some (Err (fault.File why))) verdict = verdict ≡ file.Refused why.line why.code
 
--- what is said of the lines of a basis file agrees with the verdict of the reader of such files
+-- the result of the lines of a basis file, from a state on, agrees with the verdict of the reader of such files
 agree : (limits : SizeLimits) (m : Model) (f : Form) (s : file.State) (n : ℕ) (lines : Lines) →
     Agrees m (basis_said_from limits (InFile m f s n) lines) (file.judge m f s (n + 1) lines)
 unfolding basis_step

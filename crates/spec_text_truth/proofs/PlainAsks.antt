@@ -338,7 +338,7 @@ with_part_plain raw (Some p) h k = record {
   parts = All-append IsPlainPart raw.parts (p ∷ []) h.parts (All-cons IsPlainPart p [] k (All-nil IsPlainPart));
 }
 
--- where a certificate so far and words have no line feed in a name, what the words lead to has none
+-- where a certificate's read parts and a line's words have no line feed in a name, what the words lead to has none
 words_step_plain : (so_far : Option ExactRaw) (words : List (List ℕ)) → IfSome so_far IsPlainRaw → All HasNoFeed words →
     IsPlainOutcome (words_step narrow so_far words)
 words_step_plain None words h k = opened_plain (kind_of words) (kind_plain words k)
@@ -348,7 +348,7 @@ words_step_plain (Some raw) words h k = by (is_end words)
     by true = h
     by false = with_part_plain raw (part_by narrow raw.kind words) h (part_plain raw.kind words k)
 
--- where a certificate so far and a line have no line feed in a name, what the line leads to has none
+-- where a certificate's read parts and a line have no line feed in a name, what the line leads to has none
 certificate_step_plain : (so_far : Option ExactRaw) (next : Line (List ℕ)) → IfSome so_far IsPlainRaw → IsPlainText next →
     IsPlainOutcome (step_by narrow so_far next)
 unfolding step_by
@@ -361,7 +361,8 @@ abbrev IsPlainJudgement : Judgement → Type 0
 IsPlainJudgement (certificate_text.Spelled raw) = IsPlainRaw raw
 IsPlainJudgement (certificate_text.Refused n) = Unit {0}
 
--- where a certificate so far and lines have no line feed in a name, the certificate that they spell has none
+-- where a certificate's read parts and further lines have no line feed in a name, the certificate that they spell has
+-- none
 judged_plain : (so_far : Option ExactRaw) (n : ℕ) (lines : List (Line (List ℕ))) → IfSome so_far IsPlainRaw →
     All IsPlainText lines → IsPlainJudgement (judge_by narrow so_far n lines)
 judged_plain so_far n [] h k = tt
@@ -406,7 +407,7 @@ asks_by_plain : (found : Option (Asked ExactCommand)) → IsPlainLine found → 
 asks_by_plain None h = none_plain
 asks_by_plain (Some addressed) h = command_asks_plain addressed.session addressed.ask h
 
--- the ask that a text with a verdict makes has no name with a line feed
+-- the request that a text with a verdict makes has no name with a line feed
 verdict_plain : (v : Verdict) → IsPlainAsk (ask_of_verdict v)
 verdict_plain (Spelled m) = tt
 verdict_plain (Refused n fault) = tt

@@ -162,7 +162,7 @@ pub pivots_no_feed : (pivots : Option ℕ) → HasNoFeed (pivots_text pivots)
 pivots_no_feed None = tested_no_feed (codes "-") refl
 pivots_no_feed (Some n) = decimal_no_feed n
 
--- the text of what became of a put has no line feed
+-- the text of how publishing words ended has no line feed
 put_no_feed : (put : Put) → HasNoFeed (put_text put)
 put_no_feed (puts.Published k) =
     both_no_feed (codes "PUBLISHED ") (decimal k) (tested_no_feed (codes "PUBLISHED ") refl) (decimal_no_feed k)

@@ -78,7 +78,7 @@ alone_told told line rest other f =
 
 -- ---- as many as a digit says
 
--- digits put before a text make it no shorter
+-- digits that are written before a text make it no shorter
 longer : (k n : ℕ) (acc : List ℕ) → length acc ≤ length (digits_onto k 10 false n acc)
 longer zero n acc = omega arith
 longer (suc k) n acc = by (nat_eq (n / 10) 0) (longer k (n / 10) (digit_glyph false (n % 10) ∷ acc))
@@ -90,7 +90,7 @@ longer (suc k) n acc = by (nat_eq (n / 10) 0) (longer k (n / 10) (digit_glyph fa
     by true l = omega arith
     by false l = omega (arith, l)
 
--- at least one digit put before a text makes it longer
+-- at least one digit that is written before a text makes it longer
 two_digits : (k n : ℕ) (acc : List ℕ) → suc (length acc) ≤ length (digits_onto (suc k) 10 false n acc)
 two_digits k n acc = by (nat_eq (n / 10) 0) (longer k (n / 10) (digit_glyph false (n % 10) ∷ acc))
   where

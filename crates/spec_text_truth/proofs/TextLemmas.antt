@@ -22,7 +22,7 @@ Agrees None verdict = (n : ℕ) × (verdict ≡ text.Refused n code.Cut)
 Agrees (Some (Ok m)) verdict = verdict ≡ text.Spelled m
 Agrees (Some (Err fault)) verdict = verdict ≡ text.Refused fault.line fault.code
 
--- what is said of the lines of a text, from a state on, agrees with the verdict of the reader of texts
+-- the result of the lines of a text, from a state on, agrees with the verdict of the reader of texts
 agree : (limits : SizeLimits) (style : Style) (s : State) (n : ℕ) (lines : List (Line (List ℕ))) →
     Agrees (said_by (text_step limits style) (record { state = s; lines = n }) lines) (text.judge limits
     style s (n + 1) lines)
@@ -39,7 +39,7 @@ agree limits style s n (line ∷ lines) = by (text.step limits style s line) (λ
     by (Ok (text.Done m)) more = refl
     by (Err fault) more = refl
 
--- what is said of the lines of a text, from the beginning on, agrees with the verdict of the reader of texts
+-- the result of the lines of a text, from the beginning on, agrees with the verdict of the reader of texts
 agrees_as : (limits : SizeLimits) (style : Style) (lines : List (Line (List ℕ))) (o : Option TextSaid) → text_said_within limits style lines ≡ o →
     Agrees o (text.judge limits style start 1 lines)
 agrees_as limits style lines o is =

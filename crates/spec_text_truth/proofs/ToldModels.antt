@@ -27,7 +27,7 @@ told_of x = told_by (asking_of (asked_in x)) x.reply
 
 -- ---- steps
 
--- a reply to an edit makes the edit where its text is `OK`, and keeps the session's model otherwise
+-- a reply to an edit makes the edit where its text is `OK`, and keeps the session's model where it is not
 change_told : (held : Option Model) (e : ExactEdit) (replied : ExactReply) →
     after_change held e replied ≡ cond (same (reply_text replied) (codes "OK")) (after_edit held e) held
 unfolding reply_text

@@ -187,7 +187,7 @@ module _ (a b : State) (alike : IsAlike a b) (replied replied' : ExactReply) (ne
 
 -- ---- steps and runs
 
--- two states alike but for last answers stay so after one ask of both, and the replies agree, with memory enough
+-- two states alike but for last answers stay so after one request to both, and the replies agree, with memory enough
 steps_agree : (places places' : ℕ) (a b : State) → IsAlike a b → (asked : ExactAsk) (reads reads' : List ExactRead)
     (replied replied' : ExactReply) (new new' : State) →
     AloneStep places a asked reads replied new → AloneStep places' b asked reads' replied' new' →

@@ -28,7 +28,7 @@ use Rattle.spec_world.proofs.PutActs.{put_counted, claimed_moved, done_moved}
 
 -- ---- looks
 
--- the reads so far of a look are those that it has made
+-- the reads of a look-up that goes on are those that it has made
 looking_reads : (shape : List ℕ) (k : ℕ) (reads : List ExactRead) → reads_so_far (looking shape k reads) ≡ reads
 looking_reads shape zero reads = refl
 looking_reads shape (suc k) reads = refl

@@ -237,7 +237,8 @@ opening_formed = record {
   places = λ k words e. absurd (let z = e in cc);
 }
 
--- where a good world's models may be kept and its words are well formed, they are so after an act with such a model
+-- a good world whose models may be kept and whose words are well formed stays one after an act with a model that may be
+-- kept
 takes_formed : (server : Server) (old : World) (event : ExactEvent) (end : ExactEnd) (new : World) →
     IsGood server old → IsKeptAct event.act → IsFormedWorld old → Takes server old event end new → IsFormedWorld new
 takes_formed server old event end new good may w t =
@@ -258,14 +259,14 @@ takes_formed server old event end new good may w t =
         by false e =
             subst IsFormedSession (sym (t.others session (eqb-false event.session session e))) (w.sessions session)
 
--- where a good world's models may be kept and its words are well formed, they are so after an event, enabled or not
+-- a good world whose models may be kept and whose words are well formed stays one after an event, enabled or not
 step_formed : (enabled : Bool) (server : Server) (old : World) (event : ExactEvent) (end : ExactEnd) (new : World) →
     IsGood server old → IsKeptAct event.act → IsFormedWorld old → StepBy enabled server old event end new →
     IsFormedWorld new
 step_formed true server old event end new good may w t = takes_formed server old event end new good may w t
 step_formed false server old event end new good may w h = subst IsFormedWorld (sym h.1) w
 
--- where a good world's models may be kept and its words are well formed, they are so after a run of events
+-- a good world whose models may be kept and whose words are well formed stays one after a run of events
 run_formed : (server : Server) (old : World) (events : List ExactEvent) (new : World) → IsGood server old →
     AreKeptEvents events → IsFormedWorld old → WorldRun server old events new → IsFormedWorld new
 run_formed server old [] new good may w run = subst IsFormedWorld (sym run) w

@@ -119,7 +119,7 @@ idle_after server old x middle r reads idle session = by (nat_eq x.session sessi
     by true e = subst (λ i. (middle.sessions i).stage ≡ Idle) (eqb-true x.session session e) r.is_idle
     by false e = ap (λ (s : Session). s.stage) (reads.others session (eqb-false x.session session e)) ∙ idle session
 
--- asks one after the other from a good world of idle sessions come to the exchanges with their reads
+-- requests that run one after the other from a good world of idle sessions come to the exchanges with their reads
 comes_to : (server : Server) (old : World) (xs : List Exchange) (new : World) → IsGood server old →
     ((session : ℕ) → (old.sessions session).stage ≡ Idle) → Together server old xs new → ComesTo server old xs new
 comes_to server old [] new good idle t = record {

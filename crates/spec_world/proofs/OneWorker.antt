@@ -94,7 +94,7 @@ together_from server old (x ∷ xs) last ready there =
     (ready_on server old x xs last p.0 run.0 own.0 ready e run.2 p.2) there.1 in
     (more.0, (e.new, e.runs, more.1))
 
--- exchanges that one worker may have had are those of a world in which asks come one after the other
+-- exchanges that one worker may have had are those of a world in which requests run one after the other
 pub one_together : (server : Server) (xs : List Exchange) → RunFits server.places xs → HaveSessions server xs →
     (world : World) × Together server opening_world xs world
 one_together server xs fits there =

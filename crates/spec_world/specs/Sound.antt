@@ -110,12 +110,12 @@ pub record IsSound (server : Server) (world : World) : Type 0 where
 
 -- ---- events
 
--- the models that events ask sessions to hold may be kept, and the numbers of edits are ones that a kept model may have
+-- the model of an event's request may be kept, and the numbers of its edit are ones that a kept model may have
 abbrev pub IsKeptAct : ExactAct → Type 0
 IsKeptAct (act.Ask asked) = IsKeptAsk asked
 IsKeptAct other = Unit {0}
 
--- the models and edits that events ask for may be kept
+-- the models and edits of the events' requests may be kept
 abbrev pub AreKeptEvents : List ExactEvent → Type 0
 AreKeptEvents events = AllByRecursion (λ e. IsKeptAct e.act) events
 
