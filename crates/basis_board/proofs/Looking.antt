@@ -2,7 +2,7 @@
 --
 -- `each_both`: where two properties of an element give a third, all elements that have the two have the third.
 -- `reads_on`: once i words of a place are read and the next one is, i + 1 are, and they agree with all seen before.
--- `rest_on`: the same for a word behind the shape, where the shape is the one looked for.
+-- `rest_on`: `IsReadingRest` goes on by one word behind the shape, where the place has the shape that is looked for.
 -- `other_at`: a pass that read 25 words which are not the shape has passed by the place.
 -- `differ`: two lists that a comparison finds unequal are not the same.
 use Rattle.basis_board.specs.Rule.{Consistent}

@@ -137,7 +137,7 @@ marked_are t (m ∷ ms) (r ∷ rs) (l ∷ ls) h e =
     let rest : AreReads rs ls = cc in
     ap (λ n. one_if (eqb m.0 t) + n) (marked_are t ms rs ls h.1 rest)
 
--- the note of each mark of a pass is one of the notes of the pass
+-- the note of each element of the list that `marks` makes of a pass is one of the pass's notes
 mark_noted : (ms : List Moment) (rs : List RawRead) (ls : List Logged) (x : Mark) → Has (marks ms rs ls) x →
     Has (notes ms rs) (note_of x)
 unfolding marks
@@ -163,7 +163,7 @@ below_first n (m ∷ ms) old [] ls e = tt
 below_first n (m ∷ ms) old (r ∷ rs) [] e = tt
 below_first n (m ∷ ms) old (r ∷ rs) (l ∷ ls) e = (e.0, below_first n ms old rs ls e.1)
 
--- where each moment of a pass comes after those before it, the numbers in the list that `marks` makes fall, as the
+-- where each read of a pass is later than those before it, the numbers in the list that `marks` makes fall, as the
 -- newest is first
 marks_fall : (ms : List Moment) (rs : List RawRead) (ls : List Logged) → ComeAfter ms [] → Falls (marks ms rs ls)
 unfolding marks

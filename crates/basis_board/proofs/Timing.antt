@@ -234,14 +234,14 @@ timed_same ws us vs vs' r more less same back was true_then =
       were_true = true_then;
     }
 
--- where a new sight has the moments of the one it replaces, what is noted was noted
+-- where what one pass knows is replaced and its times stay, each time of the passes was there before
 noted_quiet : (vs : List Sight) (id : ℕ) (v w : Sight) → get_elem? vs id ≡ some v → w.moments ≡ v.moments →
     (m : Moment) → IsNoted (set vs id w) m → IsNoted vs m
 noted_quiet vs id v w at same m n =
     ⊎_elim (λ (h : Has w.moments m). (id, v, at, subst (λ (l : List Moment). Has l m) same h))
     (λ (h : IsNoted vs m). h) (noted_set vs id w m n)
 
--- where each note of a new sight was alike in the one it replaces, each note was there alike
+-- where what one pass knows is replaced and each of its notes had a like one before, each note of the passes had one
 was_quiet : (vs : List Sight) (id : ℕ) (v w : Sight) → get_elem? vs id ≡ some v →
     ((n : Note) → Has (notes_in w) n → HadAlike (notes_in v) n) → (n : Note) → HasNote (set vs id w) n → WasNote vs n
 was_quiet vs id v w at had n h =
@@ -345,7 +345,7 @@ timed_note ws us vs id v w read r at turns new is_read true_then =
       were_true = sights_stay (λ u. WereTrue u.moments u.view.reads) vs id w true_then r.were_true;
     }
 
--- where each moment that a list has is before t, all of its moments are
+-- where each element of a list of times is before t, `Each` of the list is before t
 each_before : (t : ℕ) (ms : List Moment) → ((m : Moment) → Has ms m → m.0 < t) → Each (λ n. n.0 < t) ms
 each_before t [] h = tt
 each_before t (m ∷ ms) h = (h m (inl refl), each_before t ms (λ n q. h n (inr q)))
@@ -392,7 +392,7 @@ same_notes ms rs qs e n h = (n.read, subst (λ l. Has (notes ms l) n) e h, λ ws
 
 -- ---- calls
 
--- where later moments come after older ones and those after old ones, both together come after the old ones
+-- where later times come after older ones and those after old ones, both together come after the old ones
 come_on : (cs bs old : List Moment) → ComeAfter bs old → ComeAfter cs (bs ++ old) → ComeAfter (cs ++ bs) old
 come_on [] bs old b c = b
 come_on (m ∷ cs) bs old b c = (
@@ -576,7 +576,7 @@ one_log ws vs id v r at others =
 
 -- ---- what no kind of step can do
 
--- what holds of each moment that a list has holds of each of its moments
+-- a property of each element of a list of times is one of `Each` of the list
 between_each : (P : Moment → Type 0) (ms : List Moment) → ((m : Moment) → Has ms m → P m) → Each P ms
 between_each P [] h = tt
 between_each P (m ∷ ms) h = (h m (inl refl), between_each P ms (λ n q. h n (inr q)))

@@ -12,7 +12,7 @@ fn is_same(a: Side, b: Side) -> bool
     a.row == b.row && a.at == b.at && a.upper == b.upper
 }
 
-/// Whether the side is one of these.
+/// Whether the side is in the list of sides.
 #[tactic(auto, unfolding(spec_iis::specs::Sides::is_listed))]
 pub(crate) fn is_listed(sides: &[Side], side: Side) -> bool
     ensures { result ≡ is_listed sides.now side }

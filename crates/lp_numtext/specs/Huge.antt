@@ -2,7 +2,7 @@
 use Rattle.std.specs.Prelude.{suc, ◌*◌, ◌^◌, pos, negsuc, Bool, nat_le}
 use Rattle.spec_mps.specs.NumberText.{NumberParts, Decimal, Quotient}
 
--- the size is at least 10 ^ 20
+-- whether the absolute value of a number is at least 10 ^ 20
 unfoldable pub is_huge : NumberParts → Bool
 is_huge (Decimal negative s (pos e)) = nat_le (10 ^ 20) (s * 10 ^ e)
 is_huge (Decimal negative s (negsuc e)) = nat_le (10 ^ 20 * 10 ^ suc e) s

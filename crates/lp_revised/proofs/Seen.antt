@@ -7,6 +7,7 @@ use Rattle.spec_simplex.specs.Tableau.{Tableau, entry_at}
 use Rattle.spec_exact.proofs.RunsInOrder.{get_or-made}
 use Rattle.spec_factor.specs.Revised.{seen_entry, seen}
 
+-- in the tableau that a step sees, the entries in the entering column j are those of the solved column
 pub seen_at : (starts : List (RowStart ℚ)) (t : Tableau) (j : ℕ) (z : List ℚ) (p : ℕ) → p < t.rows →
     entry_at (seen starts t j z) p j ≡ seen_entry starts t z p
 seen_at starts t j z p l =

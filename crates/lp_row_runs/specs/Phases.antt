@@ -76,7 +76,7 @@ PausesWith of value budget f whole s (Ended e) = row_end_in of whole ≡ Ok e
 PausesWith of value budget f whole s Narrow = IsLeft value budget f whole s
 PausesWith of value budget f whole s GaveUp = Unit {0}
 
--- where the run goes on in wider words, the state is ready
+-- where a run over rows stops to go on in wider words, a run may go on from its state
 abbrev pub StaysReady : {N T : Type 0} → (T → ℕ) → Form → State T → PhasesPause N → Type 0
 StaysReady value f s (Ended e) = Unit {0}
 StaysReady value f s Narrow = IsReady value f s

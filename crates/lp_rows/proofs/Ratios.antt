@@ -1,7 +1,7 @@
 -- A ratio without a division, and the gap by the sign of an entry.
 --
 -- `ratio_is`: g / (d * e) over the magnitude s / e of an entry is g / (d * s).
--- `stops`: a position with the gap g / (d * e) is compared with the best so far by the ratio g / (d * s).
+-- `stops`: a position with the gap g / (d * e) is compared with the best one before it by the ratio g / (d * s).
 -- `gap_run_is`: the gap of the ratio test is the gap by the sign of the entry, turned as the column moves.
 use Rattle.std.proofs.Common.{◌≡◌, ℕ, ◌*◌, ◌<◌, ℤ, pos, neg_ℤ, ◌*ℤ◌, [], ◌∷◌, refl, sym, ap, subst, ◌∙◌, arith, Bool}
 use Rattle.std.proofs.Common.{true, false, Option, Some, None, Ok, cond, ap₂, int_cmp, Ordering, Less, Equal}

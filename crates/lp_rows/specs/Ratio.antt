@@ -34,7 +34,7 @@ abbrev pub bound_of : {T : Type 0} → (T → ℕ) → ℕ → Option (Signed T)
 bound_of value d None = None
 bound_of value d (Some b) = Some (over (whole b.negative (value b.size)) d)
 
--- the best so far, with what stops the column in one position
+-- the best ratio of the positions before, compared with what stops the column in one more position
 abbrev pub stopped : {T : Type 0} → (T → ℕ) → ℕ → Option (Stopper T) → Option (Best ℚ) → Run (Option (Best ℚ))
 stopped value d None best = Ok best
 stopped value d (Some s) best = better_run None (best_of value d s) best

@@ -20,8 +20,8 @@ abbrev pub AreAsked : Option (List ℕ) → List ℕ → List (Asked ExactAsk) �
 AreAsked after read asks =
     (asks ≡ ended_asks_of Numbered read) ⊎ ((asks ≡ (script_of Numbered read).asks) × IsAtEnd after)
 
--- The bytes that were read; the exchanges of their asks, in which each session runs alone, by so many workers, and
--- shares so many places with the others; and the bytes that were written, a prefix of the output of the exchanges.
+-- The bytes that were read; the exchanges of their requests, in which each session runs alone, by `workers` workers
+-- that share `places` places; and the bytes that were written, a prefix of the output of the exchanges.
 pub record Moves (workers places : ℕ) (s : Streams) : Type 0 where
   pub read : List ℕ
   pub exchanges : List Exchange

@@ -7,7 +7,7 @@ use Rattle.spec_exact.specs.Run.{Run, ◌>>=◌}
 use Rattle.spec_exact.specs.Narrow.{number_limit}
 use Rattle.spec_simplex.specs.Step.{gap_run, with_gap}
 
--- the best so far, with a position, its column, its entry in the entering column, and the column's bounds and value
+-- the best ratio of the positions before, compared with that of one more, by its column, entry, bounds and value
 abbrev pub best_at : Way → ℕ → ℕ → ℚ → Option ℚ → Option ℚ → ℚ → Option (Best ℚ) → Run (Option (Best ℚ))
 best_at way place col entry lower upper value best =
     gap_run (Some number_limit) way entry lower upper value >>= λ gap. with_gap (Some number_limit) place col entry best

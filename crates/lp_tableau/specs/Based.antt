@@ -13,7 +13,7 @@ use Rattle.lp_frac.specs.declared.stop.Stop.{Stop}
 use Rattle.lp_form.specs.declared.stop.Singular.{Singular}
 use Rattle.lp_frac.specs.declared.stop.Stop.TheVariants as stop
 
--- the run stops so, or memory ran out
+-- the run stops for this reason, or memory ran out
 abbrev pub StopsAt : {A : Type 0} → Result A (StartStop ℚ) → Stop Singular → Type 0
 StopsAt run (stop.Cause why) = run ≡ Err start.Singular
 StopsAt run (stop.Past p) = run ≡ Err (start.Past p)

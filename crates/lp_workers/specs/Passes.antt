@@ -21,8 +21,8 @@ pub record IsFresh (board : Board) (pass : Known) : Type 0 where
   pub unnoted : pass.moments ≡ []
   pub consistent : Consistent pass.view
 
--- The pass is one of the board's, and has one of the 64 parts; each of its notes was so, and is later than those before; and what
--- it read stands in order.
+-- The pass is one of the board's, and has one of its 64 parts. Each of its reads was true when it was noted, and is
+-- later than those before. Its reads are in order.
 pub record IsUsed (board : Board) (pass : Known) : Type 0 where
   pub of_board : pass.board ≡ id_of board
   pub share : pass.view.share ≡ 1

@@ -25,7 +25,7 @@ fn print_text(alloc: Global, name: &[u8], value: Frac, to: &mut Bytes) -> Result
     to.push(b'\n')
 }
 
-// Writes that line, unless the value is 0.
+// Appends the line of one value of a point, unless the value is 0.
 fn print_part(alloc: Global, name: &[u8], value: Frac, to: &mut Bytes) -> Result<(), AllocError>
     ensures { OnOk result (to.new ≡ to.old ++ ended_lines (written.part_lines letter.X name.now value)) }
 {
