@@ -33,7 +33,8 @@ fn is_quit(ask: &Ask) -> bool
     }
 }
 
-// Reads the next request. Where none comes, the link ends.
+// Reads the next request. Where none comes, the link ends. `take` writes nothing, so no write ends it (its clause
+// `taken`).
 fn next_ask<L: Link>(alloc: Global, lines: &mut Lines, link: &mut L) -> Result<Ask, LinkEnd>
     ensures asks { TakesAsk (L.left link.old) (L.left link.new) lines.old lines.new result }
     ensures cause { (L.read_faults link.old ≤ L.read_faults link.new)
@@ -47,8 +48,8 @@ fn next_ask<L: Link>(alloc: Global, lines: &mut Lines, link: &mut L) -> Result<A
         Err(Halt::Cut) => Err(LinkEnd::Cut),
         Err(Halt::Over) => Err(LinkEnd::Over),
         Err(Halt::Read) => Err(LinkEnd::Read),
-        Err(Halt::Write) => Err(LinkEnd::Write),
         Err(Halt::NoMemory) => Err(LinkEnd::NoMemory),
+        Err(Halt::Write) => unreachable!(),
     }
 }
 
