@@ -46,19 +46,18 @@ pub(crate) trait Command {
         may_make command given outcome → may_write command given (lines command given outcome) };
 }
 
-/// Writes what a run of the command made, if memory sufficed for the run.
+/// Writes the lines of an outcome, and lets it go.
 pub(crate) fn print<C: Command>(
     alloc: Global,
     command: &C,
     given: &C::Given,
-    made: Result<C::Outcome, AllocError>,
+    outcome: C::Outcome,
     to: &mut Bytes,
 ) -> Result<(), AllocError>
     requires takes { C.takes command.now given.now }
-    requires made { IfOk made (C.may_make command.now given.now) }
+    requires made { C.may_make command.now given.now outcome }
     ensures { OnOk result (Prints (C.may_write command.now given.now) to.old to.new) }
 {
-    let outcome = made?;
     let printed = command.write(alloc, given, &outcome, to);
     drop(outcome);
     printed

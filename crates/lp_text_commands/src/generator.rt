@@ -89,7 +89,7 @@ fn generated_text(alloc: Global, model: &Model) -> Result<Bytes, AllocError>
     ensures { IfOk result (SolvedOut model.now) }
 {
     let mut text = Bytes::new(alloc);
-    let made = SolveMade.run(alloc, model);
-    print(alloc, &SolveMade, model, made, &mut text)?;
+    let outcome = SolveMade.run(alloc, model)?;
+    print(alloc, &SolveMade, model, outcome, &mut text)?;
     Ok(text)
 }

@@ -38,8 +38,8 @@ impl<C: Command<Given = Model> + Drop> Output for Said<C> {
         let Said { said, command } = self;
         match said {
             Ok(model) => {
-                let made = command.run(alloc, model.model());
-                let printed = print(alloc, &command, model.model(), made, to);
+                let outcome = command.run(alloc, model.model())?;
+                let printed = print(alloc, &command, model.model(), outcome, to);
                 drop(model);
                 printed?;
                 Ok(ExitStatus::DONE)

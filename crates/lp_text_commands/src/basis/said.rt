@@ -39,8 +39,8 @@ impl<C: Command<Given = Handed> + Drop> Output for SaidWithBasis<C> {
         let SaidWithBasis { said, command } = self;
         match said {
             Ok(handed) => {
-                let made = command.run(alloc, &handed);
-                let printed = print(alloc, &command, &handed, made, to);
+                let outcome = command.run(alloc, &handed)?;
+                let printed = print(alloc, &command, &handed, outcome, to);
                 drop(handed);
                 printed?;
                 Ok(ExitStatus::DONE)

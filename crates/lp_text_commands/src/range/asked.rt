@@ -67,8 +67,8 @@ fn print_model(
     match place_of(model, moved, name) {
         Some(at) => {
             let command = RangeAt { moved, at };
-            let made = command.run(alloc, model);
-            print(alloc, &command, model, made, to)?;
+            let outcome = command.run(alloc, model)?;
+            print(alloc, &command, model, outcome, to)?;
             Ok(ExitStatus::DONE)
         }
         None => {

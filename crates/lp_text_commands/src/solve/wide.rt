@@ -62,8 +62,8 @@ impl Output for LargeSaid {
     fn print(self, alloc: Global, to: &mut Bytes) -> Result<ExitStatus, AllocError> {
         match self {
             Ok(model) => {
-                let made = SolveWide.run(alloc, &model);
-                let printed = print(alloc, &SolveWide, &model, made, to);
+                let outcome = SolveWide.run(alloc, &model)?;
+                let printed = print(alloc, &SolveWide, &model, outcome, to);
                 drop(model);
                 printed?;
                 Ok(ExitStatus::DONE)
