@@ -9,7 +9,7 @@
 //! | `Stage`, `Step` | what was read so far, and where the next line leads | src/hearing, src/stages, src/script |
 //! | `take` | reads the lines of the next ask | src/taking, specs/Takes |
 //! | `Halt` | why a command halts before it has done all that is asked | src/halt, specs/Halt |
-//! | `answer_of`, `pivots_of`, `certificate_lines` | what is answered of what a solve ended with, its pivots and the lines of its certificate | src/solved |
+//! | `answer_of`, `pivots_of`, `certificate_lines`, `print_certificate` | what is answered of what a solve ended with, its pivots, and the lines of its certificate | src/solved |
 //! | `wide_lines`, `push_wide_known` | the lines that an exact solve is answered with, and the text of its answer | src/wide |
 //! | `verdict_on` | what is replied of a certificate for a model | src/verdict |
 //! | `number_to` | the number that a word gives | src/words |
@@ -43,7 +43,7 @@ pub use command::read;
 pub use halt::Halt;
 pub use hearing::{Heard, Stage, Step, hear};
 pub use printing::{print, print_lines, print_said};
-pub use solved::{answer_of, certificate_lines, pivots_of};
+pub use solved::{answer_of, certificate_lines, pivots_of, print_certificate};
 pub use spec_server::{Addressing, How, LineFault, Publication};
 pub use stages::{CertificateSaid, LargeSaid, TextSaid};
 pub use taking::take;

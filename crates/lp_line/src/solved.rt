@@ -1,10 +1,12 @@
 // What is said of what a solve ended with.
-ghost use Rattle.std.specs.Prelude.{◌≡◌, ℕ, IfOk};
+ghost use Rattle.std.specs.Prelude.{◌≡◌, ◌++◌, ℕ, IfOk, OnOk};
 ghost use Rattle.spec_solve.specs.Answers.{MayAnswer};
 ghost use Rattle.spec_server.specs.Machine as machine;
+ghost use Rattle.spec_server.specs.Output.{ended_lines};
 
 use crate::asks::Reply;
-use lp_base::Texts;
+use crate::printing::print_lines;
+use lp_base::{Bytes, Texts};
 use lp_certificate::cert_text;
 use lp_form::Basis;
 use lp_frac::{Frac, Fracs};
@@ -43,4 +45,18 @@ pub fn certificate_lines(alloc: Global, model: &Model, solved: &End) -> Result<T
         End::Ended { certificate, .. } => cert_text(alloc, model, certificate),
         End::Past(_) | End::Spent => Ok(Texts::new(alloc)),
     }
+}
+
+/// Writes the lines of the certificate of a solve, none where the solve has no answer.
+pub fn print_certificate(
+    alloc: Global,
+    model: &Model,
+    solved: &End,
+    to: &mut Bytes,
+) -> Result<(), AllocError>
+    requires { (budget : ℕ) × MayAnswer model.now budget solved.now }
+    ensures { OnOk result (to.new ≡ to.old ++ ended_lines (machine.lines_of_solved model.now solved.now)) }
+{
+    let lines = certificate_lines(alloc, model, solved)?;
+    print_lines(&lines, to)
 }

@@ -15,7 +15,7 @@
 //! | `print_reply` | writes the line of a reply | src/reply |
 //! | `say_text`, `Said` | the same of a text, whose model is given to a command | src/said |
 //! | `Solve`, `SolveWide` | solves the model, at 127 bits or at any width | src/solve |
-//! | `print_answer`, `print_past`, `print_certificate`, `print_end` | the lines of a solve, of which other commands write some | src/solve/lines |
+//! | `print_answer`, `print_past`, `print_end` | the lines of a solve, of which other commands write some | src/solve/lines |
 //! | `SolveFrom`, `SolveWideFrom` | solves the model from the basis of the file after its text | src/basis |
 //! | `Handed`, `Start` | a model, and the basis from which it is solved | src/basis/starting |
 //! | `say_basis`, `BasisStage` | reads a text and the basis file after it | src/basis/said, src/basis/stage |

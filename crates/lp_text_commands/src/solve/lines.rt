@@ -1,15 +1,16 @@
 // What a solve ended with, as it is written.
-ghost use Rattle.std.specs.Prelude.{◌≡◌, ◌++◌, ℕ, OnOk};
+ghost use Rattle.std.specs.Prelude.{◌≡◌, ◌++◌, OnOk};
 ghost use Rattle.spec_solve.specs.Answers.{MayAnswer};
 ghost use Rattle.spec_server.specs.Machine as machine;
-ghost use Rattle.spec_server.specs.Output.{check_line, ended_lines};
+ghost use Rattle.spec_server.specs.Output.{check_line};
 ghost use Rattle.spec_commands.specs.SolveOut.{solved_lines};
 ghost use Rattle.spec_server.specs.declared.asks.Reply.TheVariants as replies;
 
 use crate::reply::print_reply;
 use lp_base::Bytes;
 use lp_frac::Past;
-use lp_line::{Reply, answer_of, certificate_lines, print_lines};
+pub(crate) use lp_line::print_certificate;
+use lp_line::{Reply, answer_of};
 use lp_model::Model;
 use lp_solve::{End, OPENING_BUDGET};
 use std::alloc::{AllocError, Global};
@@ -41,18 +42,4 @@ pub(crate) fn print_past(alloc: Global, past: Past, to: &mut Bytes) -> Result<()
     ensures { OnOk result (to.new ≡ to.old ++ check_line (replies.Past past)) }
 {
     print_reply(alloc, Reply::Past(past), to)
-}
-
-/// Writes the lines of the certificate of a solve, none where it knows nothing of the model.
-pub(crate) fn print_certificate(
-    alloc: Global,
-    model: &Model,
-    end: &End,
-    to: &mut Bytes,
-) -> Result<(), AllocError>
-    requires { (budget : ℕ) × MayAnswer model.now budget end.now }
-    ensures { OnOk result (to.new ≡ to.old ++ ended_lines (machine.lines_of_solved model.now end.now)) }
-{
-    let lines = certificate_lines(alloc, model, end)?;
-    print_lines(&lines, to)
 }
