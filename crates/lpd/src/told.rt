@@ -67,14 +67,17 @@ pub fn tell_reading(rt: &HostRuntime, words: &[String]) {
     if !rt.stdin().is_terminal() || word_fault(words).is_some() {
         return;
     }
-    if let Some(what) = what_is_read(words) {
+    let Some(command) = words.first() else {
+        return;
+    };
+    if let Some(what) = what_is_read(command.as_str()) {
         let _ = eprintln!(rt; "lpd: reading {what}, up to the end of the input (Ctrl-D)");
     }
 }
 
-// What the command of these words reads from standard input, where it reads something.
-fn what_is_read(words: &[String]) -> Option<&'static str> {
-    match words.first()?.as_str() {
+/// What the command with this name reads from standard input, where it reads something.
+pub fn what_is_read(command: &str) -> Option<&'static str> {
+    match command {
         "run" => Some("a script, as `1 LOAD FREE`, a model and `1 SOLVE` (docs/PROTOCOL.md)"),
         "solve" | "presolve" | "iis" | "range" => Some("a model in MPS"),
         "check" => Some("a model in MPS, and its certificate behind it"),

@@ -1,6 +1,7 @@
 // What is said of words that are no command line: which word is at fault, what may have been meant in its place, and how
 // the command is used.
 use crate::nearest::nearest;
+use crate::told::what_is_read;
 use crate::usage::{COMMANDS, OPTIONS, usage};
 use lp_command_line::{Plain, WordFault, word_fault};
 use std::alloc::{AllocError, Global};
@@ -8,9 +9,6 @@ use std::io;
 
 // The words that are answered by a notice.
 const NOTICES: [&str; 2] = ["--help", "--version"];
-
-// The commands that read standard input: a word behind them is often the name of a file.
-const READERS: [&str; 7] = ["run", "solve", "check", "basis", "presolve", "iis", "range"];
 
 /// Writes on standard error that the words are no command line, and behind that line why. Where memory runs out, it says
 /// no more than what it has said by then.
@@ -137,29 +135,31 @@ fn reason(
         None => ("lpd", "a command"),
     };
     match fault {
-        WordFault::NoWord => format!(in alloc; "there is no word"),
+        WordFault::NoWord => String::from_str(alloc, "there is no word"),
         WordFault::NoCommand(word) => format!(in alloc; "there is no command {:?}", text(word)),
         WordFault::TooFew => format!(in alloc; "{name} wants {plain}"),
         WordFault::NotPlain(place, word) => {
             format!(in alloc; "{:?} is no {}", text(word), wanted(place))
         }
-        WordFault::NoOption(word) if word.starts_with(b"-") => {
-            format!(in alloc; "{name} has no option {:?}", text(word))
-        }
-        WordFault::NoOption(word) => {
-            format!(in alloc; "{name} takes no further word {:?}", text(word))
-        }
+        WordFault::NoOption(word) => no_option(alloc, name, text(word)),
         WordFault::Twice(word) => format!(in alloc; "{} is given twice", text(word)),
         WordFault::NoValue(word) => format!(in alloc; "{} has no value", text(word)),
-        WordFault::NotValue(option, value) => {
-            let option = text(option);
-            format!(in alloc;
-                "{:?} is no value of {option}: {}",
-                text(value),
-                said_of(option)
-            )
-        }
+        WordFault::NotValue(option, value) => no_value(alloc, text(option), text(value)),
     }
+}
+
+// That a word behind the command is none of its options, or one too many.
+fn no_option(alloc: Global, name: &str, word: &str) -> Result<String, AllocError> {
+    if word.starts_with('-') {
+        return format!(in alloc; "{name} has no option {word:?}");
+    }
+    format!(in alloc; "{name} takes no further word {word:?}")
+}
+
+// That an option cannot have this value, and what the usage says of the option.
+fn no_value(alloc: Global, option: &str, value: &str) -> Result<String, AllocError> {
+    let says = said_of(option);
+    format!(in alloc; "{value:?} is no value of {option}: {says}")
 }
 
 // The words are text; what is none can't come here.
@@ -182,22 +182,37 @@ fn wanted(plain: Plain) -> &'static str {
     }
 }
 
-// What the usage says of an option.
-fn said_of(option: &str) -> &'static str {
-    let bare = option.trim_start_matches('-');
-    for (_, name, _, says) in OPTIONS {
-        if name == bare {
-            return says;
+// What the usage says of an option, and what it calls the option's value. A switch has no value: that is empty.
+#[derive(Clone, Copy)]
+struct Setting {
+    value: &'static str,
+    says: &'static str,
+}
+
+// The option with this name, which has no dashes.
+fn setting_of(option: &str) -> Option<Setting> {
+    for (_, name, value, says) in OPTIONS {
+        if name == option {
+            return Some(Setting { value, says });
         }
     }
-    ""
+    None
+}
+
+// What the usage says of an option, whose name may have dashes.
+fn said_of(option: &str) -> &'static str {
+    match setting_of(option.trim_start_matches('-')) {
+        Some(setting) => setting.says,
+        None => "",
+    }
 }
 
 // Whether an option has a value; a switch has none.
 fn has_value(option: &str) -> bool {
-    OPTIONS
-        .iter()
-        .any(|(_, name, value, _)| *name == option && *value != "")
+    match setting_of(option) {
+        Some(setting) => setting.value != "",
+        None => false,
+    }
 }
 
 // What may have been meant, to be written behind the reason.
@@ -210,18 +225,18 @@ fn hint(
         (None, WordFault::NoCommand(word)) => meant_command(alloc, text(word)),
         (Some(head), WordFault::NoOption(word)) => meant_option(alloc, head.name, text(word)),
         (Some(_), WordFault::NotValue(b"--form", value)) => {
-            meant(alloc, nearest(alloc, text(value), &["free", "fixed"])?)
+            meant(alloc, text(value), &["free", "fixed"])
         }
         (Some(_), WordFault::NotPlain(Plain::Number, word)) => {
-            meant(alloc, nearest(alloc, text(word), &["cost", "rhs", "all"])?)
+            meant(alloc, text(word), &["cost", "rhs", "all"])
         }
         _ => Ok(String::new(alloc)),
     }
 }
 
-// The question whether this name was meant, or nothing.
-fn meant(alloc: Global, name: Option<&str>) -> Result<String, AllocError> {
-    match name {
+// The question whether the name nearest to the word was meant, if one is near, or nothing.
+fn meant(alloc: Global, word: &str, names: &[&'static str]) -> Result<String, AllocError> {
+    match nearest(alloc, word, names)? {
         Some(name) => format!(in alloc; "; did you mean {name}?"),
         None => Ok(String::new(alloc)),
     }
@@ -233,39 +248,56 @@ fn meant_command(alloc: Global, word: &str) -> Result<String, AllocError> {
     for (command, _) in COMMANDS {
         names.push(head_of(command).name)?;
     }
-    for notice in NOTICES {
-        names.push(notice)?;
-    }
-    meant(alloc, nearest(alloc, word, names.as_slice())?)
+    names.extend_from_slice(&NOTICES)?;
+    meant(alloc, word, names.as_slice())
 }
 
-// An option and its value may stand in one word. What is no option may be the name of a file. Of the word itself no
-// control character is written.
+// An option and its value may stand in one word. What is no option may be the name of a file.
 fn meant_option(alloc: Global, command: &str, word: &str) -> Result<String, AllocError> {
-    let mut names = Vec::new(alloc);
-    for (heading, name, _, _) in OPTIONS {
-        if is_of(command, heading) {
-            names.push(name)?;
-        }
-    }
     let (name, value) = match word.split_once('=') {
-        Some((name, value)) => (name, value),
+        Some(parts) => parts,
         None => (word, ""),
     };
-    match nearest(alloc, name, names.as_slice())? {
-        Some(option) if value != "" && has_value(option) => {
-            format!(in alloc; "; did you mean --{option} {}?", value.escape_debug())
-        }
-        Some(option) => format!(in alloc; "; did you mean --{option}?"),
-        None if reads(command) && !word.starts_with('-') => {
-            let file = word.escape_debug();
-            format!(in alloc; "; it reads standard input: did you mean < {file}?")
-        }
+    match nearest_option(alloc, command, name)? {
+        Some(option) if has_value(option) => meant_value(alloc, option, value),
+        Some(option) => meant_value(alloc, option, ""),
+        None if is_file(command, word) => meant_file(alloc, word),
         None => Ok(String::new(alloc)),
     }
 }
 
-// Whether the command reads standard input.
-fn reads(command: &str) -> bool {
-    READERS.iter().any(|reader| *reader == command)
+// The option of the command that is nearest to the name, if one is near.
+fn nearest_option(
+    alloc: Global,
+    command: &str,
+    name: &str,
+) -> Result<Option<&'static str>, AllocError> {
+    let mut names = Vec::new(alloc);
+    for (heading, option, _, _) in OPTIONS {
+        if is_of(command, heading) {
+            names.push(option)?;
+        }
+    }
+    nearest(alloc, name, names.as_slice())
+}
+
+// The question whether the option was meant, with this value where there is one. Of the value no control character is
+// written.
+fn meant_value(alloc: Global, option: &str, value: &str) -> Result<String, AllocError> {
+    if value == "" {
+        return format!(in alloc; "; did you mean --{option}?");
+    }
+    let value = value.escape_debug();
+    format!(in alloc; "; did you mean --{option} {value}?")
+}
+
+// Whether the word may be the name of a file: the command reads standard input, and the word begins as no option does.
+fn is_file(command: &str, word: &str) -> bool {
+    what_is_read(command).is_some() && !word.starts_with('-')
+}
+
+// The question whether the word is the name of a file that was to be read. Of it no control character is written.
+fn meant_file(alloc: Global, word: &str) -> Result<String, AllocError> {
+    let file = word.escape_debug();
+    format!(in alloc; "; it reads standard input: did you mean < {file}?")
 }
