@@ -1,16 +1,50 @@
 // Sessions of a world that publish at the same time.
+ghost use Rattle.std.specs.Prelude.{◌↔◌, IsTrue};
+ghost use Rattle.spec_model.specs.Kept.{IsUsual};
+
+use crate::lifted_bases::model_of;
 use lp_core::World;
 use lp_line::{Ask, Plain, Reply};
-use lp_text_commands::make;
+use lp_model::{Model, USUAL_LIMITS, UsualModel};
 use spec_board::Put;
 use spec_server::Publication;
 use spec_world::{Act, Event, StepEnd};
-use std::alloc::Global;
+use std::alloc::{AllocError, Global};
 use std::test::Fail;
+
+// One pivot away from its optimum.
+const MODEL: &str = "NAME a\nROWS\n N cost\n G R1\nCOLUMNS\n x cost 1 R1 1\nRHS\n R1 1\nENDATA\n";
+
+// Whether a session may hold the model.
+fn is_usual(model: &Model) -> bool
+    ensures { IsTrue result ↔ IsUsual model.now }
+{
+    model.rows() <= USUAL_LIMITS.rows && model.cols() <= USUAL_LIMITS.columns
+}
+
+// The model as one that a session may hold.
+fn held(alloc: Global) -> Result<Option<UsualModel>, AllocError> {
+    let Some(model) = model_of(alloc, MODEL)? else {
+        return Ok(None);
+    };
+    if is_usual(&model) {
+        return Ok(Some(UsualModel::new(model)));
+    }
+    drop(model);
+    Ok(None)
+}
 
 // The world takes one act of the session. The reply is dropped.
 fn step(alloc: Global, world: &mut World, session: u32, act: Act<Ask>) {
     let _ = world.step(alloc, Event { session, act });
+}
+
+// The session loads the model.
+fn load(alloc: Global, world: &mut World, session: u32) -> Result<(), AllocError> {
+    if let Some(model) = held(alloc)? {
+        step(alloc, world, session, Act::Ask(Ask::Loaded(model)));
+    }
+    Ok(())
 }
 
 // A session solves, up to the claim of a place. It sees place 0 where that is claimed, and else cannot.
@@ -43,8 +77,7 @@ fn one_session_is_raced_and_one_overtaken(rt: HostRuntime) -> Result<(), Fail> {
     let alloc = rt.alloc();
     let mut world = World::new(alloc, 3, 4)?;
     for session in 1..4 {
-        let held = make(alloc, 1, 1, 1)?; // one pivot away from its optimum
-        step(alloc, &mut world, session, Act::Ask(Ask::Loaded(held)));
+        load(alloc, &mut world, session)?;
     }
     come_to_the_claim(alloc, &mut world, 1);
     come_to_the_claim(alloc, &mut world, 2);
