@@ -1,21 +1,43 @@
 // Ends of runs in floats: what lifting makes of their bases, with no step.
-use crate::lifted_bases::{model_of, shows};
+use crate::lifted_bases::{model_of, shows, statuses_of};
 use lp_check::wide::check;
 use lp_float::{FloatEnd, float_end, near_end};
 use lp_lift::answer_of_basis;
 use lp_model::Model;
-use spec_pivot::Status;
 use std::alloc::{AllocError, Global};
 use std::test::Fail;
 
-// Whether a run ended, and at a basis with this answer.
+// From where a run begins: the logical basis, or statuses, a letter for each. From near a basis a short run is enough.
+#[derive(Clone, Copy)]
+enum Start {
+    Logical,
+    At(&'static str),
+    Near(&'static str),
+}
+
+// The end of the run.
+fn end_of(alloc: Global, model: &Model, start: Start) -> Result<Option<FloatEnd>, AllocError> {
+    match start {
+        Start::Logical => float_end(alloc, model, None),
+        Start::At(letters) => {
+            let statuses = statuses_of(alloc, letters)?;
+            float_end(alloc, model, Some(&statuses))
+        }
+        Start::Near(letters) => {
+            let statuses = statuses_of(alloc, letters)?;
+            near_end(alloc, model, &statuses)
+        }
+    }
+}
+
+// Whether the run ends, and at a basis with this answer.
 fn has_answer(
     alloc: Global,
     model: &Model,
-    end: Option<FloatEnd>,
+    start: Start,
     wanted: &str,
 ) -> Result<bool, AllocError> {
-    let Some(end) = end else {
+    let Some(end) = end_of(alloc, model, start)? else {
         return Ok(false);
     };
     match answer_of_basis(alloc, model, &end.statuses, end.witness, 0)? {
@@ -27,32 +49,16 @@ fn has_answer(
     }
 }
 
-// Whether a run from these statuses, or from the logical basis, ends at a basis with this answer.
-fn ends(
-    alloc: Global,
-    text: &str,
-    start: Option<&[Status]>,
-    wanted: &str,
-) -> Result<bool, AllocError> {
-    let Some(model) = model_of(alloc, text)? else {
-        return Ok(false);
-    };
-    let end = float_end(alloc, &model, start)?;
-    has_answer(alloc, &model, end, wanted)
-}
+// A model, the start of a run, and the answer at its end.
+type Case = (&'static str, Start, &'static str);
 
-// Whether a short run in floats from these statuses ends at a basis with this answer.
-fn ends_near(
-    alloc: Global,
-    text: &str,
-    start: &[Status],
-    wanted: &str,
-) -> Result<bool, AllocError> {
-    let Some(model) = model_of(alloc, text)? else {
-        return Ok(false);
-    };
-    let end = near_end(alloc, &model, start)?;
-    has_answer(alloc, &model, end, wanted)
+// Whether the run ends at a basis with this answer.
+fn holds(alloc: Global, case: Case) -> Result<bool, AllocError> {
+    let (text, start, wanted) = case;
+    match model_of(alloc, text)? {
+        Some(model) => has_answer(alloc, &model, start, wanted),
+        None => Ok(false),
+    }
 }
 
 // x = 3 and y = 1.
@@ -60,69 +66,55 @@ const CORNER: &str = "NAME corner\nROWS\n N cost\n L R1\n L R2\n\
 COLUMNS\n x cost -1 R1 1\n x R2 1\n y cost -2 R1 1\n y R2 3\n\
 RHS\n r R1 5 R2 6\nBOUNDS\n UP b x 3\n UP b y 9\nENDATA\n";
 
-// From the logical basis, a float run ends at the optimal basis.
-#[test]
-fn finds_an_optimum(rt: HostRuntime) -> Result<(), Fail> {
-    assert!(rt; ends(rt.alloc(), CORNER, None, "-5")?);
-    Ok(())
-}
-
-// A float run ends at the optimal basis from statuses that are a basis, from some that are none, and from none at all.
-#[test]
-fn begins_with_statuses(rt: HostRuntime) -> Result<(), Fail> {
-    let alloc = rt.alloc();
-    let (basic, lower, upper) = (Status::Basic, Status::AtLower, Status::AtUpper);
-    assert!(rt; ends(alloc, CORNER, Some(&[upper, basic, basic, upper]), "-5")?);
-    assert!(rt; ends(alloc, CORNER, Some(&[basic, basic, lower, lower]), "-5")?);
-    assert!(rt; ends(alloc, CORNER, Some(&[lower, lower, lower, lower]), "-5")?);
-    assert!(rt; ends(alloc, CORNER, Some(&[]), "-5")?);
-    Ok(())
-}
-
-// A short float run from a basis ends at the answer, for a model of each of the three kinds.
-#[test]
-fn ends_near_a_basis(rt: HostRuntime) -> Result<(), Fail> {
-    let alloc = rt.alloc();
-    let (basic, lower, upper) = (Status::Basic, Status::AtLower, Status::AtUpper);
-    assert!(rt; ends_near(alloc, CORNER, &[upper, basic, basic, upper], "-5")?);
-    assert!(rt; ends_near(alloc, CORNER, &[lower, upper, basic, basic], "-5")?);
-    assert!(rt; ends_near(alloc, NOWHERE, &[lower, lower, basic, basic], "infeasible")?);
-    assert!(rt; ends_near(alloc, RISING, &[lower, lower, basic], "unbounded")?);
-    Ok(())
-}
-
 // x is free, y at most 0, and R1 from 2 to 8; R2 is an equation.
 const MIXED: &str = "NAME mixed\nROWS\n N cost\n G R1\n E R2\n\
 COLUMNS\n x cost 3 R1 1\n x R2 1\n y cost -1 R1 1\n y R2 -2\n z cost 1 R2 1\n\
 RHS\n r R1 2 R2 4\nRANGES\n g R1 6\n\
 BOUNDS\n FR b x\n MI b y\n UP b y 0\n UP b z 5\nENDATA\n";
 
-// A float run takes free columns, columns below 0, ranges and equations.
-#[test]
-fn takes_bounds_of_each_kind(rt: HostRuntime) -> Result<(), Fail> {
-    assert!(rt; ends(rt.alloc(), MIXED, None, "8")?);
-    Ok(())
-}
-
 // x is at least 3 and y at least 2, so R1 is at most 5 and R2 at least 9.
 const NOWHERE: &str = "NAME nowhere\nROWS\n N cost\n L R1\n L R2\n\
 COLUMNS\n x cost -1 R1 1\n x R2 1\n y cost -2 R1 1\n y R2 3\n\
 RHS\n r R1 5 R2 6\nBOUNDS\n LO b x 3\n LO b y 2\nENDATA\n";
 
-// Of an infeasible model, a float run ends with statuses and a witness from which lifting shows it.
-#[test]
-fn finds_no_feasible_point(rt: HostRuntime) -> Result<(), Fail> {
-    assert!(rt; ends(rt.alloc(), NOWHERE, None, "infeasible")?);
-    Ok(())
-}
-
 const RISING: &str =
     "NAME rising\nROWS\n N cost\n L R1\nCOLUMNS\n x cost -1 R1 1\n y cost -1 R1 -1\n\
 RHS\n r R1 3\nENDATA\n";
 
-// Of an unbounded model, a float run ends with statuses and a witness from which lifting shows it.
+const CASES: [Case; 12] = [
+    // From the logical basis a run ends at the optimal basis.
+    (CORNER, Start::Logical, "-5"),
+    // So does one from statuses that are a basis, from some that are none, and from none at all.
+    (CORNER, Start::At("UBBU"), "-5"),
+    (CORNER, Start::At("BBLL"), "-5"),
+    (CORNER, Start::At("LLLL"), "-5"),
+    (CORNER, Start::At(""), "-5"),
+    // A short run from a basis ends at the answer, for a model of each of the three kinds.
+    (CORNER, Start::Near("UBBU"), "-5"),
+    (CORNER, Start::Near("LUBB"), "-5"),
+    (NOWHERE, Start::Near("LLBB"), "infeasible"),
+    (RISING, Start::Near("LLB"), "unbounded"),
+    // A run takes free columns, columns below 0, ranges and equations.
+    (MIXED, Start::Logical, "8"),
+    // Of a model without a feasible point, and of one without a limit, lifting shows that from the statuses and the
+    // witness at the end.
+    (NOWHERE, Start::Logical, "infeasible"),
+    (RISING, Start::Logical, "unbounded"),
+];
+
+// The place of the first case that does not hold.
+fn first_wrong(alloc: Global, cases: &[Case]) -> Result<Option<usize>, AllocError> {
+    for place in 0..cases.len() {
+        if !holds(alloc, cases[place])? {
+            return Ok(Some(place));
+        }
+    }
+    Ok(None)
+}
+
+// Each run ends at the answer of its case.
 #[test]
-fn finds_no_limit(rt: HostRuntime) -> Result<(), Fail> {
-    assert!(rt; ends(rt.alloc(), RISING, None, "unbounded")?);
+fn runs_end_at_answers(rt: HostRuntime) -> Result<(), Fail> {
+    assert_eq!(rt; first_wrong(rt.alloc(), &CASES)?, None);
     Ok(())
 }

@@ -42,7 +42,7 @@ fn status_of(letter: u8) -> Status {
 }
 
 // A status for each letter.
-fn statuses_of(alloc: Global, letters: &str) -> Result<Vec<Status>, AllocError> {
+pub(crate) fn statuses_of(alloc: Global, letters: &str) -> Result<Vec<Status>, AllocError> {
     let mut list = Vec::new(alloc);
     for letter in letters.as_bytes() {
         list.push(status_of(*letter))?;
@@ -68,50 +68,23 @@ pub(crate) fn shows(alloc: Global, verdict: &Verdict, wanted: &str) -> bool {
     }
 }
 
-// A basis of a model, and the answer that it leads to within so many steps.
-#[derive(Clone, Copy)]
-struct Case<'a> {
-    text: &'a str,
-    letters: &'a str,
-    most_steps: u32,
-    wanted: &'a str,
-}
+// A model, a basis of it, and the answer that the basis leads to within so many steps.
+type Case = (&'static str, &'static str, u32, &'static str);
 
-impl<'a> Case<'a> {
-    // A case of this model and basis.
-    fn new(text: &'a str, letters: &'a str, most_steps: u32, wanted: &'a str) -> Case<'a> {
-        Case {
-            text,
-            letters,
-            most_steps,
-            wanted,
+// Whether the basis has this answer.
+fn holds(alloc: Global, case: Case) -> Result<bool, AllocError> {
+    let (text, letters, most_steps, wanted) = case;
+    let Some(model) = model_of(alloc, text)? else {
+        return Ok(false);
+    };
+    let statuses = statuses_of(alloc, letters)?;
+    match answer_of_basis(alloc, &model, &statuses, None, most_steps)? {
+        Some(lifted) => {
+            let verdict = check(alloc, &model, &lifted.certificate)?;
+            Ok(lifted.steps <= most_steps && shows(alloc, &verdict, wanted))
         }
+        None => Ok(are_same(wanted.as_bytes(), b"nothing")),
     }
-
-    // Whether the basis has this answer.
-    fn holds(&self, alloc: Global) -> Result<bool, AllocError> {
-        let Some(model) = model_of(alloc, self.text)? else {
-            return Ok(false);
-        };
-        let statuses = statuses_of(alloc, self.letters)?;
-        match answer_of_basis(alloc, &model, &statuses, None, self.most_steps)? {
-            Some(lifted) => {
-                let verdict = check(alloc, &model, &lifted.certificate)?;
-                Ok(lifted.steps <= self.most_steps && shows(alloc, &verdict, self.wanted))
-            }
-            None => Ok(are_same(self.wanted.as_bytes(), b"nothing")),
-        }
-    }
-}
-
-// The place of the first case that does not hold.
-fn first_wrong(alloc: Global, cases: &[Case<'_>]) -> Result<Option<usize>, AllocError> {
-    for (place, case) in cases.iter().enumerate() {
-        if !case.holds(alloc)? {
-            return Ok(Some(place));
-        }
-    }
-    Ok(None)
 }
 
 // 3 x + y >= 10^34 + 2 and x - y = 7, so x is a quarter of 10^34 + 9.
@@ -121,51 +94,10 @@ RHS\n r R1 10000000000000000000000000000000002\n r R2 7\nENDATA\n";
 
 const WIDE_VALUE: &str = "7499999999999999999999999999999992.75";
 
-// The optimal basis of a model with right sides past 64 bits is lifted to its value.
-#[test]
-fn right_sides_past_a_word(rt: HostRuntime) -> Result<(), Fail> {
-    let cases = [
-        Case::new(WIDE, "BBLL", 0, WIDE_VALUE),
-        Case::new(WIDE, "BBLU", 0, WIDE_VALUE),
-    ];
-    assert_eq!(rt; first_wrong(rt.alloc(), &cases)?, None);
-    Ok(())
-}
-
-// Statuses with too many or too few basic columns lead to the optimum within some steps, and some of them without any.
-#[test]
-fn bases_with_columns_too_many_or_too_few(rt: HostRuntime) -> Result<(), Fail> {
-    let cases = [
-        Case::new(WIDE, "BBLB", 0, "nothing"),
-        Case::new(WIDE, "BBLB", 9, WIDE_VALUE),
-        Case::new(WIDE, "BBBB", 9, WIDE_VALUE),
-        Case::new(WIDE, "BLLL", 9, WIDE_VALUE),
-        Case::new(WIDE, "LLLL", 9, WIDE_VALUE),
-        // Statuses are missing, one is behind the last column, and columns are at bounds that they do not have.
-        Case::new(WIDE, "BB", 0, WIDE_VALUE),
-        Case::new(WIDE, "BBLLB", 0, WIDE_VALUE),
-        Case::new(WIDE, "UZBU", 9, WIDE_VALUE),
-    ];
-    assert_eq!(rt; first_wrong(rt.alloc(), &cases)?, None);
-    Ok(())
-}
-
 // The entries of y are twice those of x.
 const DEPENDENT: &str =
     "NAME dependent\nROWS\n N cost\n G R1\n G R2\nCOLUMNS\n x cost 3 R1 1\n x R2 2\n y cost 5 R1 2\n \
 y R2 4\n z cost 4 R1 1\n z R2 1\nRHS\n r R1 4\n r R2 6\nENDATA\n";
-
-// A singular basis gives nothing by itself, and leads to the optimum within some steps.
-#[test]
-fn singular_bases(rt: HostRuntime) -> Result<(), Fail> {
-    let cases = [
-        Case::new(DEPENDENT, "BBLLL", 0, "nothing"),
-        Case::new(DEPENDENT, "BBLLL", 9, "10"),
-        Case::new(DEPENDENT, "BBBLL", 9, "10"),
-    ];
-    assert_eq!(rt; first_wrong(rt.alloc(), &cases)?, None);
-    Ok(())
-}
 
 // f is fixed at 2, whatever its reduced cost. z is free, and has the reduced cost 0 beside x.
 const STILL: &str =
@@ -177,36 +109,9 @@ const CHEAP: &str =
     "NAME cheap\nROWS\n N cost\n G R1\nCOLUMNS\n f cost -5 R1 1\n z cost 0.5 R1 1\n x cost 1 R1 1\n\
 RHS\n r R1 5\nBOUNDS\n FX b f 2\n FR b z\nENDATA\n";
 
-// A nonbasic fixed column may have any reduced cost, and a nonbasic free one none but 0.
-#[test]
-fn fixed_and_free_columns_that_are_not_basic(rt: HostRuntime) -> Result<(), Fail> {
-    let cases = [
-        Case::new(STILL, "LZBL", 0, "-7"),
-        Case::new(STILL, "UZBL", 0, "-7"),
-        Case::new(CHEAP, "LZBL", 0, "nothing"),
-        Case::new(CHEAP, "LZBL", 9, "-8.5"),
-    ];
-    assert_eq!(rt; first_wrong(rt.alloc(), &cases)?, None);
-    Ok(())
-}
-
 // x + y is from 2 to 8.
 const SIDES: &str = "NAME sides\nROWS\n N cost\n G R1\nCOLUMNS\n x cost -1 R1 1\n y cost 2 R1 1\n\
 RHS\n r R1 2\nRANGES\n g R1 6\nBOUNDS\n UP b x 100\n UP b y 3\nENDATA\n";
-
-// Bases with rows and columns at their upper limits are lifted, and lead to the optimum from the lower ones.
-#[test]
-fn rows_and_columns_at_their_other_side(rt: HostRuntime) -> Result<(), Fail> {
-    let cases = [
-        Case::new(SIDES, "BLU", 0, "-8"),
-        Case::new(SIDES, "BLL", 0, "nothing"),
-        Case::new(SIDES, "BLL", 1, "-8"),
-        Case::new(SIDES, "BUL", 1, "-8"),
-        Case::new(SIDES, "LBL", 9, "-8"),
-    ];
-    assert_eq!(rt; first_wrong(rt.alloc(), &cases)?, None);
-    Ok(())
-}
 
 const RISING: &str =
     "NAME rising\nROWS\n N cost\n L R1\nCOLUMNS\n x cost -1 R1 1\n y cost -1 R1 -1\n\
@@ -216,36 +121,12 @@ const NOWHERE: &str =
     "NAME nowhere\nROWS\n N cost\n G R1\n L R2\nCOLUMNS\n x cost 1 R1 1\n x R2 1\n y cost 2 R1 1\n \
 y R2 1\nRHS\n r R1 5\n r R2 3\nENDATA\n";
 
-// Bases of infeasible and of unbounded models lead to certificates that show it.
-#[test]
-fn models_without_an_optimum(rt: HostRuntime) -> Result<(), Fail> {
-    let cases = [
-        Case::new(RISING, "BLU", 1, "unbounded"),
-        Case::new(RISING, "LLB", 9, "unbounded"),
-        Case::new(NOWHERE, "BLLB", 0, "infeasible"),
-        Case::new(NOWHERE, "LBBU", 9, "infeasible"),
-        Case::new(NOWHERE, "LLBB", 9, "infeasible"),
-    ];
-    assert_eq!(rt; first_wrong(rt.alloc(), &cases)?, None);
-    Ok(())
-}
-
 // Each number is 10^18 times the one before.
 const CHAIN: &str =
     "NAME chain\nROWS\n N cost\n G R1\n G R2\n G R3\n G R4\nCOLUMNS\n x R1 1 R2 -1000000000000000000\n \
 u R2 1 R3 -1000000000000000000\n v R3 1 R4 -1000000000000000000\n w cost 1 R4 1\nRHS\n r R1 9\nENDATA\n";
 
-// A basis whose numbers grow past 127 bits is lifted to its value.
-#[test]
-fn numbers_past_two_words(rt: HostRuntime) -> Result<(), Fail> {
-    let value = "9000000000000000000000000000000000000000000000000000000";
-    let cases = [
-        Case::new(CHAIN, "BBBBLLLL", 0, value),
-        Case::new(CHAIN, "LLLLBBBB", 9, value),
-    ];
-    assert_eq!(rt; first_wrong(rt.alloc(), &cases)?, None);
-    Ok(())
-}
+const CHAIN_VALUE: &str = "9000000000000000000000000000000000000000000000000000000";
 
 const DECIMALS: &str =
     "NAME decimals\nROWS\n N cost\n G R1\nCOLUMNS\n x cost 0.7 R1 0.1\n y cost 0.2 R1 0.03\n\
@@ -272,29 +153,70 @@ const APART_VALUE: &str =
 const NO_ROWS: &str =
     "NAME none\nROWS\n N cost\nCOLUMNS\n x cost -2\nRHS\nBOUNDS\n UP b x 3\nENDATA\n";
 
-// Rows whose common denominator is past 127 bits are lifted to the right values.
-#[test]
-fn common_denominators_past_127_bits(rt: HostRuntime) -> Result<(), Fail> {
-    let cases = [
-        Case::new(PAST, "LBL", 0, PAST_VALUE),
-        Case::new(PAST, "BLL", 9, PAST_VALUE),
-        Case::new(PAST, "BBL", 9, PAST_VALUE),
-        Case::new(APART, "BBLL", 0, APART_VALUE),
-        Case::new(APART, "LLBB", 9, APART_VALUE),
-    ];
-    assert_eq!(rt; first_wrong(rt.alloc(), &cases)?, None);
-    Ok(())
+const CASES: [Case; 38] = [
+    // The optimal basis of a model with right sides past 64 bits is lifted to its value.
+    (WIDE, "BBLL", 0, WIDE_VALUE),
+    (WIDE, "BBLU", 0, WIDE_VALUE),
+    // Statuses with too many or too few basic columns lead to the optimum within some steps, and some of them without any.
+    (WIDE, "BBLB", 0, "nothing"),
+    (WIDE, "BBLB", 9, WIDE_VALUE),
+    (WIDE, "BBBB", 9, WIDE_VALUE),
+    (WIDE, "BLLL", 9, WIDE_VALUE),
+    (WIDE, "LLLL", 9, WIDE_VALUE),
+    // Statuses are missing, one is behind the last column, and columns are at bounds that they do not have.
+    (WIDE, "BB", 0, WIDE_VALUE),
+    (WIDE, "BBLLB", 0, WIDE_VALUE),
+    (WIDE, "UZBU", 9, WIDE_VALUE),
+    // A singular basis gives nothing by itself, and leads to the optimum within some steps.
+    (DEPENDENT, "BBLLL", 0, "nothing"),
+    (DEPENDENT, "BBLLL", 9, "10"),
+    (DEPENDENT, "BBBLL", 9, "10"),
+    // A nonbasic fixed column may have any reduced cost, and a nonbasic free one none but 0.
+    (STILL, "LZBL", 0, "-7"),
+    (STILL, "UZBL", 0, "-7"),
+    (CHEAP, "LZBL", 0, "nothing"),
+    (CHEAP, "LZBL", 9, "-8.5"),
+    // Bases with rows and columns at their upper limits are lifted, and lead to the optimum from the lower ones.
+    (SIDES, "BLU", 0, "-8"),
+    (SIDES, "BLL", 0, "nothing"),
+    (SIDES, "BLL", 1, "-8"),
+    (SIDES, "BUL", 1, "-8"),
+    (SIDES, "LBL", 9, "-8"),
+    // Bases of infeasible and of unbounded models lead to certificates that show it.
+    (RISING, "BLU", 1, "unbounded"),
+    (RISING, "LLB", 9, "unbounded"),
+    (NOWHERE, "BLLB", 0, "infeasible"),
+    (NOWHERE, "LBBU", 9, "infeasible"),
+    (NOWHERE, "LLBB", 9, "infeasible"),
+    // A basis whose numbers grow past 127 bits is lifted to its value.
+    (CHAIN, "BBBBLLLL", 0, CHAIN_VALUE),
+    (CHAIN, "LLLLBBBB", 9, CHAIN_VALUE),
+    // Rows whose common denominator is past 127 bits are lifted to the right values.
+    (PAST, "LBL", 0, PAST_VALUE),
+    (PAST, "BLL", 9, PAST_VALUE),
+    (PAST, "BBL", 9, PAST_VALUE),
+    (APART, "BBLL", 0, APART_VALUE),
+    (APART, "LLBB", 9, APART_VALUE),
+    // Decimal coefficients give a fraction, and a model without rows is answered by its bounds.
+    (DECIMALS, "LBL", 0, "34/3"),
+    (DECIMALS, "BLL", 9, "34/3"),
+    (NO_ROWS, "U", 0, "-6"),
+    (NO_ROWS, "B", 9, "-6"),
+];
+
+// The place of the first case that does not hold.
+fn first_wrong(alloc: Global, cases: &[Case]) -> Result<Option<usize>, AllocError> {
+    for place in 0..cases.len() {
+        if !holds(alloc, cases[place])? {
+            return Ok(Some(place));
+        }
+    }
+    Ok(None)
 }
 
-// Decimal coefficients give a fraction, and a model without rows is answered by its bounds.
+// Each basis leads to the answer of its case.
 #[test]
-fn denominators_and_models_without_rows(rt: HostRuntime) -> Result<(), Fail> {
-    let cases = [
-        Case::new(DECIMALS, "LBL", 0, "34/3"),
-        Case::new(DECIMALS, "BLL", 9, "34/3"),
-        Case::new(NO_ROWS, "U", 0, "-6"),
-        Case::new(NO_ROWS, "B", 9, "-6"),
-    ];
-    assert_eq!(rt; first_wrong(rt.alloc(), &cases)?, None);
+fn bases_lead_to_answers(rt: HostRuntime) -> Result<(), Fail> {
+    assert_eq!(rt; first_wrong(rt.alloc(), &CASES)?, None);
     Ok(())
 }

@@ -14,45 +14,29 @@ fn is_written(alloc: Global, text: &[u8], wanted: &[u8]) -> bool {
     }
 }
 
-// Numbers past 127 bits are read in each spelling, and written in lowest terms.
+// Numbers past 127 bits in each spelling, and their texts in lowest terms.
+const NUMBERS: [(&[u8], &[u8]); 5] = [
+    (
+        b"-3092265124392067986218766778593727636212645132006/10307550414640226620729222595312425454042150440020",
+        b"-0.3",
+    ),
+    (
+        b"+7000000000000000000000000000000000000000000000000000000000000/21",
+        b"1000000000000000000000000000000000000000000000000000000000000/3",
+    ),
+    (b"12.5e40", b"125000000000000000000000000000000000000000"),
+    (b"-15D-41", b"-3/20000000000000000000000000000000000000000"),
+    (b"0e99999", b"0"),
+];
+
+// Numbers past 127 bits are read in each spelling, and written in lowest terms. Texts that are no number, or a power of
+// ten too far away, are refused.
 #[test]
 fn wide_numbers(rt: HostRuntime) {
     let alloc = rt.alloc();
-    assert!(rt;
-        is_written(
-            alloc,
-            b"-3092265124392067986218766778593727636212645132006/10307550414640226620729222595312425454042150440020",
-            b"-0.3",
-        )
-    );
-    assert!(rt;
-        is_written(
-            alloc,
-            b"+7000000000000000000000000000000000000000000000000000000000000/21",
-            b"1000000000000000000000000000000000000000000000000000000000000/3",
-        )
-    );
-    assert!(rt;
-        is_written(
-            alloc,
-            b"12.5e40",
-            b"125000000000000000000000000000000000000000"
-        )
-    );
-    assert!(rt;
-        is_written(
-            alloc,
-            b"-15D-41",
-            b"-3/20000000000000000000000000000000000000000"
-        )
-    );
-    assert!(rt; is_written(alloc, b"0e99999", b"0"));
-}
-
-// Texts that are no number, or a power of ten too far away, are refused.
-#[test]
-fn no_numbers(rt: HostRuntime) {
-    let alloc = rt.alloc();
+    for (text, wanted) in NUMBERS {
+        assert!(rt; is_written(alloc, text, wanted));
+    }
     assert!(rt; matches!(read_wide(alloc, b"1e16384"), Ok(_)));
     assert!(rt; matches!(read_wide(alloc, b"10e16384"), Err(WideFault::Far)));
     assert!(rt; matches!(read_wide(alloc, b"1e-16385"), Err(WideFault::Far)));
