@@ -3,6 +3,7 @@
 -- `undone`: numbers whose t-fold multiples are equal are equal.
 -- `less_times`: multiplying two numbers by t keeps which of them is less.
 -- `sums_are`: dividing the rows' sums of the t-fold numbers by t gives the rows' sums of the numbers.
+-- `divided_are`: where the t-fold results are sums of the rows, the result is the sums divided by t.
 -- `cost_is`: dividing the cost of the t-fold point by t gives the cost of the point.
 -- `reduced_is`: where t d is the t-fold cost less the price at the t-fold multipliers, d is column j's reduced cost.
 -- `reduced_all`: the run without a limit of column j's reduced cost ends with that reduced cost.
@@ -103,19 +104,25 @@ priced_times m y j t =
     ∙ sym (*ℚ-sum_below (whole (pos t)) (height m) (λ i. part y i *ℚ coefficient m i j))
 
 -- the sums of numbers that were taken so many times, divided again
-pub sums_are : (m : Model) (z numbers wholes sums : List ℚ) (t : ℕ) → 0 < t → numbers ≡ map (multiple t) z →
-    AreSums m numbers wholes → length sums ≡ length wholes →
-    ((i : ℕ) → i < length wholes → multiple t (part sums i) ≡ part wholes i) → AreSums m z sums
-sums_are m z numbers wholes sums t h e w l d = (
-  l ∙ w.0,
+pub sums_are : (m : Model) (z numbers sums : List ℚ) (t : ℕ) → 0 < t → numbers ≡ map (multiple t) z →
+    length sums ≡ height m → ((i : ℕ) → i < height m → multiple t (part sums i) ≡ activity m numbers i) →
+    AreSums m z sums
+sums_are m z numbers sums t h e l d = (
+  l,
   λ i k. undone t (part sums i) (activity m z i) h
-      (d i (omega (arith, k, w.0)) ∙ w.1 i k ∙ ap (λ xs. activity m xs i) e
-      ∙ times_weighed t (width m) (λ j. coefficient m i j) z),
+      (d i k ∙ ap (λ xs. activity m xs i) e ∙ times_weighed t (width m) (λ j. coefficient m i j) z),
 )
 
-pub cost_is : (m : Model) (z numbers : List ℚ) (t : ℕ) (s c : ℚ) → 0 < t → numbers ≡ map (multiple t) z →
-    s ≡ cost_of m numbers → multiple t c ≡ s → c ≡ cost_of m z
-cost_is m z numbers t s c h e f g = undone t c (cost_of m z) h (g ∙ f ∙ ap (cost_of m) e ∙ cost_times m z t)
+pub divided_are : {E : Type 0} (m : Model) (numbers wholes : List ℚ) (t : ℕ) (r : Result (List ℚ) E) →
+    AreSums m numbers wholes →
+    IfOk r (λ sums. (i : ℕ) → i < length wholes → multiple t (part sums i) ≡ part wholes i) →
+    IfOk r (λ sums. (i : ℕ) → i < height m → multiple t (part sums i) ≡ activity m numbers i)
+divided_are m numbers wholes t (Ok sums) w d = λ i k. d i (omega (arith, k, w.0)) ∙ w.1 i k
+divided_are m numbers wholes t (Err e) w d = tt
+
+pub cost_is : (m : Model) (z numbers : List ℚ) (t : ℕ) (c : ℚ) → 0 < t → numbers ≡ map (multiple t) z →
+    multiple t c ≡ cost_of m numbers → c ≡ cost_of m z
+cost_is m z numbers t c h e g = undone t c (cost_of m z) h (g ∙ ap (cost_of m) e ∙ cost_times m z t)
 
 -- ---- reduced costs
 

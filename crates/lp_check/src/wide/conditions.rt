@@ -1,9 +1,10 @@
 // The check of a certificate: the conditions in their order.
-ghost use Rattle.std.specs.Prelude.{◌≡◌, IfOk, length};
+ghost use Rattle.std.specs.Prelude.{◌≡◌, None, IfOk, length};
 ghost use Rattle.spec_model.specs.Model.{width, height};
 ghost use Rattle.lp_check.specs.Said.{Says};
 ghost use Rattle.spec_check.specs.declared.certificate.Certificate.TheVariants.{Optimal, Infeasible, Unbounded};
 ghost use Rattle.spec_check.specs.Certificate.{IsFor};
+ghost use Rattle.spec_check.specs.Run as run;
 
 use crate::wide::certificate::{Certificate, Known, Ratios, Verdict};
 use crate::wide::farkas::{clash, infeasible};
@@ -14,6 +15,26 @@ use crate::wide::ray::{columns_allow, gets_better, rows_allow};
 use crate::wide::sums::evaluated;
 use lp_model::Model;
 use std::alloc::{AllocError, Global};
+
+// Condition 2: whether the sum of each row at the point is within the row's limits.
+fn point_within(alloc: Global, model: &Model, x: &Ratios) -> Result<bool, AllocError>
+    requires { length x.now ≡ width model.now }
+    ensures { IfOk result (λ b. run.rows_run None model.now x.now ≡ run.need 2 b) }
+{
+    let point = evaluated(alloc, model, x)?;
+    rows_within(alloc, model, &point.sums)
+}
+
+// Condition 3: whether the point's value in each column is at the bound that the column's reduced cost needs.
+fn point_tight(alloc: Global, model: &Model, x: &Ratios, y: &Ratios) -> Result<bool, AllocError>
+    requires point { length x.now ≡ width model.now }
+    requires multipliers { length y.now ≡ height model.now }
+    ensures { IfOk result (λ b.
+        run.each (width model.now) (run.column_tight_run None model.now x.now y.now) ≡ run.need 3 b) }
+{
+    let reduced = reduced_costs(alloc, model, y)?;
+    columns_tight(alloc, model, x, &reduced)
+}
 
 // The verdict on a certificate of an optimum: the first of its conditions that fails, or the point's value.
 fn optimal(alloc: Global, model: &Model, x: &Ratios, y: &Ratios) -> Result<Verdict, AllocError>
@@ -28,8 +49,7 @@ fn optimal(alloc: Global, model: &Model, x: &Ratios, y: &Ratios) -> Result<Verdi
     if !rows_within(alloc, model, &point.sums)? {
         return Ok(Verdict::No(2));
     }
-    let reduced = reduced_costs(alloc, model, y)?;
-    if !columns_tight(alloc, model, x, &reduced)? {
+    if !point_tight(alloc, model, x, y)? {
         return Ok(Verdict::No(3));
     }
     if !rows_tight(alloc, model, y, &point.sums)? {
@@ -48,8 +68,7 @@ fn unbounded(alloc: Global, model: &Model, x: &Ratios, r: &Ratios) -> Result<Ver
     if !columns_within(alloc, model, x)? {
         return Ok(Verdict::No(1));
     }
-    let point = evaluated(alloc, model, x)?;
-    if !rows_within(alloc, model, &point.sums)? {
+    if !point_within(alloc, model, x)? {
         return Ok(Verdict::No(2));
     }
     if !columns_allow(model, r) {

@@ -99,6 +99,38 @@ fn all_divided(alloc: Global, list: &[Ratio], by: &Natural) -> Result<Ratios, Al
     Ok(Items::from_vec(out))
 }
 
+// The sum of each row, divided by the same number.
+fn divided_sums(
+    alloc: Global,
+    model: &Model,
+    numbers: &[Ratio],
+    by: &Natural,
+) -> Result<Ratios, AllocError>
+    requires numbers { length numbers.now ≡ width model.now }
+    requires positive { 0 < by.now }
+    ensures len { IfOk result (λ r. length r ≡ height model.now) }
+    ensures value { IfOk result (λ r. (i : ℕ) → i < height model.now →
+        multiple by.now (part_of r i) ≡ activity model.now numbers.now i) }
+{
+    let sums = sums_of(alloc, model, numbers)?;
+    all_divided(alloc, &sums, by)
+}
+
+// The sum of the costs, divided by a number.
+fn divided_cost(
+    alloc: Global,
+    model: &Model,
+    numbers: &[Ratio],
+    by: &Natural,
+) -> Result<Ratio, AllocError>
+    requires numbers { length numbers.now ≡ width model.now }
+    requires positive { 0 < by.now }
+    ensures { IfOk result (λ c. multiple by.now c ≡ cost_of model.now numbers.now) }
+{
+    let cost = cost_sum(alloc, model, numbers)?;
+    cost.divided(alloc, by)
+}
+
 /// The sums of the rows and the cost at a point, which has a number for each column, by one walk over the entries.
 pub fn evaluated(alloc: Global, model: &Model, z: &Ratios) -> Result<Evaluation, AllocError>
     requires { length z.now ≡ width model.now }
@@ -107,9 +139,7 @@ pub fn evaluated(alloc: Global, model: &Model, z: &Ratios) -> Result<Evaluation,
 {
     let times = common_denominator(alloc, z.as_slice())?;
     let numbers = multiples(alloc, z.as_slice(), &times)?;
-    let wholes = sums_of(alloc, model, &numbers)?;
-    let sums = all_divided(alloc, &wholes, &times)?;
-    let whole = cost_sum(alloc, model, &numbers)?;
-    let cost = whole.divided(alloc, &times)?;
+    let sums = divided_sums(alloc, model, &numbers, &times)?;
+    let cost = divided_cost(alloc, model, &numbers, &times)?;
     Ok(Evaluation { sums, cost })
 }
