@@ -12,11 +12,12 @@ use crate::choice::sign;
 use crate::overflow::Overflow;
 use lp_natural::words::{Signed, Words, minus, times};
 use spec_pivot::{Status, Way};
+use std::alloc::AllocError;
 use std::cmp::Ordering;
 
 // What stops the entering column: its ratio is the gap over the entry, and over what all bounds have as their
 // denominator.
-#[derive(Clone, Copy)]
+#[derive(Copy)]
 pub(crate) struct Stopper<T> {
     pub(crate) gap: Signed<T>,
     pub(crate) entry: T,
@@ -25,6 +26,14 @@ pub(crate) struct Stopper<T> {
     pub(crate) position: Option<u32>,
     // The bound that the column goes to.
     pub(crate) to: Status,
+}
+
+impl<T: Copy> Clone for Stopper<T> {
+    ghost is_clone = { λ x y. y ≡ x };
+
+    fn clone(&self) -> Result<Stopper<T>, AllocError> {
+        Ok(*self)
+    }
 }
 
 // Whether both products are 0, of which the second factors are not.
@@ -147,7 +156,7 @@ pub(crate) fn gap_for<T: Words>(
 }
 
 // A position as the ratio test sees it.
-#[derive(Clone, Copy)]
+#[derive(Copy)]
 pub(crate) struct Position<T> {
     pub(crate) position: u32,
     // Its basic column.
@@ -159,6 +168,14 @@ pub(crate) struct Position<T> {
     pub(crate) lower: Option<Signed<T>>,
     pub(crate) upper: Option<Signed<T>>,
     pub(crate) value: Signed<T>,
+}
+
+impl<T: Copy> Clone for Position<T> {
+    ghost is_clone = { λ x y. y ≡ x };
+
+    fn clone(&self) -> Result<Position<T>, AllocError> {
+        Ok(*self)
+    }
 }
 
 // What stops the entering column in a position whose basic column has this gap.

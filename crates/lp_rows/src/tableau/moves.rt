@@ -9,6 +9,7 @@ ghost use Rattle.lp_rows.specs.Moves.{number_at, IsLess, IsScaled, IsCleared, Ar
 use crate::fractions::{Row, clear, divide, reduce};
 use crate::tableau::ratio::is_zero;
 use lp_natural::words::{Signed, Words, less_products};
+use std::alloc::AllocError;
 use std::mem::swap;
 
 // Takes a product off the last number. Where it is false a number overflows the width, here and below.
@@ -128,12 +129,20 @@ fn clear_all<T: Words>(rows: &mut [Row<T>], own: &Row<T>, n: usize, j: usize) ->
 
 /// The column of a pivot, and what both columns are worth on the denominator of all bounds: that which leaves
 /// afterwards, and that which enters before.
-#[derive(Clone, Copy)]
+#[derive(Copy)]
 pub struct Turn<T> {
     pub place: usize,
     pub col: usize,
     pub leaves_at: Signed<T>,
     pub enters_from: Signed<T>,
+}
+
+impl<T: Copy> Clone for Turn<T> {
+    ghost is_clone = { λ x y. y ≡ x };
+
+    fn clone(&self) -> Result<Turn<T>, AllocError> {
+        Ok(*self)
+    }
 }
 
 /// Turns the rows and the reduced costs as a pivot does. The costs are in the list of rows at `place` meanwhile, so
