@@ -9,6 +9,8 @@ use Rattle.lp_natural.specs.Whole.{whole}
 use Rattle.lp_natural.specs.declared.words.signed.Signed.{Signed}
 use Rattle.lp_rows.specs.declared.fractions.Row.{Row}
 use Rattle.lp_rows.specs.Row.{fraction_at}
+use Rattle.lp_rows.specs.declared.tableau.parts.Bounds.{Bounds}
+use Rattle.lp_rows.specs.declared.tableau.parts.Standing.{Standing}
 use Rattle.lp_rows.specs.declared.tableau.tableau.RowTableau.{RowTableau}
 use Rattle.lp_rows.specs.Shows.{IsRow, row_at}
 
@@ -35,6 +37,18 @@ pub record AreRowsOf {T : Type 0} (value : T → ℕ) (t : Tableau) (d h : ℕ) 
   pub each : All (IsRow value (form_columns t)) rows
   pub entries : (i k : ℕ) → i < h → k < form_columns t → row_at value 1 rows i k ≡ entry_at t i k
   pub values : (i : ℕ) → i < h → row_at value d rows i (form_columns t) ≡ value_at t (basic_at t i)
+
+-- the whole numbers are these bounds on their denominator
+pub record AreBounds {T : Type 0} (value : T → ℕ) (lower upper : List (Option ℚ)) (b : Bounds T) : Type 0 where
+  pub below : map (bound_of value (value b.denominator)) b.lower.items ≡ lower
+  pub above : map (bound_of value (value b.denominator)) b.upper.items ≡ upper
+  pub positive : 0 < value b.denominator
+
+-- the columns stand as those of a tableau do
+pub record AreStandings (t : Tableau) (s : Standing) : Type 0 where
+  pub basic : s.basic.items ≡ made t.rows (basic_at t)
+  pub status : s.status.items ≡ made (all_columns t) (status_at t)
+  pub fixed : s.fixed.items ≡ made (form_columns t) (λ k. is_fixed (lower_at t k) (upper_at t k))
 
 -- the rows hold all parts of a tableau
 pub record HoldsParts {T : Type 0} (value : T → ℕ) (t : Tableau) (r : RowTableau T) : Type 0 where
@@ -65,6 +79,12 @@ whole_bounds value bounds = map (option_map (whole_of value)) bounds
 -- the numbers of a row, and its denominator
 abbrev pub whole_row : {T : Type 0} → (T → ℕ) → Row T → List ℤ × ℕ
 whole_row value row = (wholes value row.numbers.items, value row.denominator)
+
+-- an integer-row tableau and bounds in another word type have the same bounds, over one denominator
+pub record AreSameBounds {T U : Type 0} (value : T → ℕ) (wide : U → ℕ) (r : RowTableau T) (b : Bounds U) : Type 0 where
+  pub lower : whole_bounds wide b.lower.items ≡ whole_bounds value r.lower.items
+  pub upper : whole_bounds wide b.upper.items ≡ whole_bounds value r.upper.items
+  pub denominator : wide b.denominator ≡ value r.denominator
 
 -- two integer-row tableaus of different word types have the same numbers
 pub record AreSameNumbers {T U : Type 0} (value : T → ℕ) (wide : U → ℕ) (r : RowTableau T) (s : RowTableau U) :

@@ -26,6 +26,7 @@ mod convert;
 mod effort;
 mod ends;
 mod moves;
+mod parts;
 mod phases;
 mod pivot;
 mod ratio;

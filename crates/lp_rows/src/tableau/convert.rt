@@ -3,11 +3,12 @@ ghost use Rattle.std.specs.Prelude.{◌≡◌, ◌<◌, IfOk, IfSome};
 ghost use Rattle.spec_exact.specs.Fraction.{0ℚ};
 ghost use Rattle.spec_exact.specs.Run.{made};
 ghost use Rattle.spec_simplex.specs.Tableau as tableaus;
-ghost use Rattle.lp_rows.specs.Held.{IsRowOf, AreRowsOf, HoldsParts};
+ghost use Rattle.lp_rows.specs.Held.{IsRowOf, AreRowsOf, AreBounds, AreStandings, HoldsParts};
 ghost use Rattle.lp_rows.specs.Shows.{IsWhole, IsReached, Shows, height};
 
 use crate::fractions::Row;
-use crate::tableau::common::{bounds_on, denominator_with, row_of};
+use crate::tableau::common::row_of;
+use crate::tableau::parts::{Bounds, Standing, common_bounds};
 use crate::tableau::tableau::RowTableau;
 use lp_form::Status;
 use lp_frac::{Frac, zero};
@@ -142,55 +143,51 @@ pub fn from_tableau<T: Words>(
     parts(alloc, tab)
 }
 
+// The bounds of all columns.
+fn bounds<T: Words>(alloc: Global, tab: &Tableau) -> Result<Option<Bounds<T>>, AllocError>
+    ensures { IfOk result (λ o. IfSome o (AreBounds T.value
+        (made (tableaus.all_columns tab.now) (tableaus.lower_at tab.now))
+        (made (tableaus.all_columns tab.now) (tableaus.upper_at tab.now)))) }
+{
+    let lower = lowers(alloc, tab)?;
+    let upper = uppers(alloc, tab)?;
+    common_bounds(alloc, &lower, &upper)
+}
+
+// The basic columns, the statuses, and which columns are fixed.
+fn standing(alloc: Global, tab: &Tableau) -> Result<Standing, AllocError>
+    ensures { IfOk result (AreStandings tab.now) }
+{
+    Ok(Standing {
+        basic: basics(alloc, tab)?,
+        status: statuses(alloc, tab)?,
+        fixed: fixed(alloc, tab)?,
+    })
+}
+
 // The integer rows of a tableau, with a contract for each part of them.
 fn parts<T: Words>(alloc: Global, tab: &Tableau) -> Result<Option<RowTableau<T>>, AllocError>
     ensures { IfOk result (λ o. IfSome o (HoldsParts T.value tab.now)) }
 {
-    let lower = lowers(alloc, tab)?;
-    let upper = uppers(alloc, tab)?;
-    let Some(so_far) = denominator_with(T::one(), &lower) else {
+    let Some(bounds) = bounds(alloc, tab)? else {
         return Ok(None);
     };
-    match denominator_with(so_far, &upper) {
-        Some(denominator) => parts_on(alloc, tab, &lower, &upper, denominator),
-        None => Ok(None),
-    }
-}
-
-// The rows that show a tableau, where `denominator` is that of all bounds.
-fn parts_on<T: Words>(
-    alloc: Global,
-    tab: &Tableau,
-    lower: &[Option<Frac>],
-    upper: &[Option<Frac>],
-    denominator: T,
-) -> Result<Option<RowTableau<T>>, AllocError>
-    requires lower { lower.now ≡ made (tableaus.all_columns tab.now) (tableaus.lower_at tab.now) }
-    requires upper { upper.now ≡ made (tableaus.all_columns tab.now) (tableaus.upper_at tab.now) }
-    requires positive { 0 < T.value denominator }
-    ensures { IfOk result (λ o. IfSome o (HoldsParts T.value tab.now)) }
-{
-    let Some(lower) = bounds_on(alloc, lower, denominator)? else {
+    let Some(rows) = rows(alloc, tab, bounds.denominator)? else {
         return Ok(None);
     };
-    let Some(upper) = bounds_on(alloc, upper, denominator)? else {
+    let Some(costs) = costs(alloc, tab, bounds.denominator)? else {
         return Ok(None);
     };
-    let Some(rows) = rows(alloc, tab, denominator)? else {
-        return Ok(None);
-    };
-    let Some(costs) = costs(alloc, tab, denominator)? else {
-        return Ok(None);
-    };
+    let standing = standing(alloc, tab)?;
     Ok(Some(RowTableau {
         cols: tab.cols(),
         rows,
         costs,
-        basic: basics(alloc, tab)?,
-        status: statuses(alloc, tab)?,
-        lower,
-        upper,
-        fixed: fixed(alloc, tab)?,
-        denominator,
+        basic: standing.basic,
+        status: standing.status,
+        lower: bounds.lower,
+        upper: bounds.upper,
+        fixed: standing.fixed,
+        denominator: bounds.denominator,
     }))
 }

@@ -1,11 +1,12 @@
 // The same rows in words of another width.
 ghost use Rattle.std.specs.Prelude.{◌≡◌, IfOk, IfSome, map, option_map};
 ghost use Rattle.spec_simplex.specs.Tableau as tableaus;
-ghost use Rattle.lp_rows.specs.Held.{whole_of, wholes, whole_bounds, whole_row, AreSameNumbers};
+ghost use Rattle.lp_rows.specs.Held.{whole_of, wholes, whole_bounds, whole_row, AreSameBounds, AreSameNumbers};
 ghost use Rattle.lp_rows.specs.Shows.{IsWhole, Shows, height};
 
 use crate::fractions::Row;
 use crate::overflow::Overflow;
+use crate::tableau::parts::{Bounds, Standing};
 use crate::tableau::tableau::RowTableau;
 use lp_natural::words::{Signed, Words, converted};
 use std::alloc::{AllocError, Global};
@@ -70,13 +71,6 @@ fn bounds<T: Words, U: Words>(
     Ok(Some(list))
 }
 
-// A copy of a list.
-fn copied<X: Copy>(alloc: Global, from: &[X]) -> Result<Vec<X>, AllocError>
-    ensures { IfOk result (λ v. v.items ≡ from.now) }
-{
-    from.iter().copied().collect(alloc)
-}
-
 // A row in words of another width, or `None` where a number overflows them.
 fn row<T: Words, U: Words>(alloc: Global, from: &Row<T>) -> Result<Option<Row<U>>, AllocError>
     ensures { IfOk result (λ o. IfSome o (λ r. whole_row U.value r ≡ whole_row T.value from.now)) }
@@ -110,6 +104,42 @@ fn rows<T: Words, U: Words>(
     Ok(Some(list))
 }
 
+// The bounds of all columns, if none overflows the other width.
+fn all_bounds<T: Words, U: Words>(
+    alloc: Global,
+    tab: &RowTableau<T>,
+) -> Result<Option<Bounds<U>>, AllocError>
+    ensures { IfOk result (λ o. IfSome o (AreSameBounds T.value U.value tab.now)) }
+{
+    let Some(denominator) = converted(tab.denominator) else {
+        return Ok(None);
+    };
+    let Some(lower) = bounds(alloc, &tab.lower)? else {
+        return Ok(None);
+    };
+    match bounds(alloc, &tab.upper)? {
+        Some(upper) => Ok(Some(Bounds {
+            lower,
+            upper,
+            denominator,
+        })),
+        None => Ok(None),
+    }
+}
+
+// The basic columns, the statuses, and which columns are fixed.
+fn standing<T: Words>(alloc: Global, tab: &RowTableau<T>) -> Result<Standing, AllocError>
+    ensures basic { IfOk result (λ s. s.basic.items ≡ tab.now.basic.items) }
+    ensures status { IfOk result (λ s. s.status.items ≡ tab.now.status.items) }
+    ensures fixed { IfOk result (λ s. s.fixed.items ≡ tab.now.fixed.items) }
+{
+    Ok(Standing {
+        basic: Vec::from_slice(alloc, &tab.basic)?,
+        status: Vec::from_slice(alloc, &tab.status)?,
+        fixed: Vec::from_slice(alloc, &tab.fixed)?,
+    })
+}
+
 /// An integer-row tableau in words of another width, or `None` where a number overflows them.
 pub fn widened<T: Words, U: Words>(
     alloc: Global,
@@ -132,7 +162,7 @@ fn made<T: Words, U: Words>(
 ) -> Result<Option<RowTableau<U>>, AllocError>
     ensures { IfOk result (λ o. IfSome o (AreSameNumbers T.value U.value tab.now)) }
 {
-    let Some(denominator) = converted(tab.denominator) else {
+    let Some(bounds) = all_bounds(alloc, tab)? else {
         return Ok(None);
     };
     let Some(costs) = row(alloc, &tab.costs)? else {
@@ -141,21 +171,16 @@ fn made<T: Words, U: Words>(
     let Some(rows) = rows(alloc, &tab.rows)? else {
         return Ok(None);
     };
-    let Some(lower) = bounds(alloc, &tab.lower)? else {
-        return Ok(None);
-    };
-    let Some(upper) = bounds(alloc, &tab.upper)? else {
-        return Ok(None);
-    };
+    let standing = standing(alloc, tab)?;
     Ok(Some(RowTableau {
         cols: tab.cols,
         rows,
         costs,
-        basic: copied(alloc, &tab.basic)?,
-        status: copied(alloc, &tab.status)?,
-        lower,
-        upper,
-        fixed: copied(alloc, &tab.fixed)?,
-        denominator,
+        basic: standing.basic,
+        status: standing.status,
+        lower: bounds.lower,
+        upper: bounds.upper,
+        fixed: standing.fixed,
+        denominator: bounds.denominator,
     }))
 }
