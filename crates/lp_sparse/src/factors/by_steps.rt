@@ -4,7 +4,7 @@
 // gone over.
 use crate::factors::{Factors, put_value, take_off, value_at};
 use crate::field::Field;
-use crate::lines::{Entry, Lines, at, put};
+use crate::lines::{Entry, Lines, at, numbered, put, turned};
 use std::alloc::{AllocError, Global};
 
 // One part in so many is many.
@@ -234,19 +234,6 @@ fn put_lines<F: Field>(
     Ok(())
 }
 
-// Adds the lines of these names, with each number at the step of its place.
-fn put_named<F: Field>(
-    list: &mut Lines<F>,
-    lines: &Lines<F>,
-    names: &[usize],
-    steps: &[usize],
-) -> Result<(), AllocError> {
-    for name in names {
-        put_line(list, lines.line(*name), steps)?;
-    }
-    Ok(())
-}
-
 impl<F: Field> Ordered<F> {
     // No steps yet.
     fn new(alloc: Global) -> Self {
@@ -273,22 +260,14 @@ impl<F: Field> Ordered<F> {
     }
 
     // Notes the numbers of the factors.
-    fn note_lines(&mut self, factors: &Factors<F>) -> Result<(), AllocError> {
-        let (rows, columns) = (&self.row_steps, &self.column_steps);
-        put_lines(&mut self.lower, &factors.lower, rows)?;
-        put_named(
-            &mut self.lower_turned,
-            &factors.lower_turned,
-            &factors.rows,
-            rows,
-        )?;
-        put_lines(&mut self.upper, &factors.upper, columns)?;
-        put_named(
-            &mut self.upper_turned,
-            &factors.upper_turned,
-            &factors.columns,
-            rows,
-        )
+    fn note_lines(&mut self, alloc: Global, factors: &Factors<F>) -> Result<(), AllocError> {
+        put_lines(&mut self.lower, &factors.lower, &self.row_steps)?;
+        put_lines(&mut self.upper, &factors.upper, &self.column_steps)?;
+        let len = factors.rows.len();
+        let steps = numbered(alloc, len)?;
+        self.lower_turned = turned(alloc, &self.lower, &steps, len, F::zero())?;
+        self.upper_turned = turned(alloc, &self.upper, &steps, len, F::zero())?;
+        Ok(())
     }
 }
 
@@ -299,7 +278,7 @@ pub fn order_factors<F: Field>(
 ) -> Result<Ordered<F>, AllocError> {
     let mut ordered = Ordered::new(alloc);
     ordered.note_names(factors)?;
-    ordered.note_lines(factors)?;
+    ordered.note_lines(alloc, factors)?;
     Ok(ordered)
 }
 
@@ -317,95 +296,126 @@ fn next_step(word: u64, left: &mut u64, w: usize) -> Option<usize> {
     )
 }
 
+// A number times what makes 1 with the diagonal's number at its step. Where there are none the diagonal is 1.
+#[inline(always)]
+fn divided<F: Field>(number: F, inverses: &[F], step: usize) -> F {
+    match inverses.get(step) {
+        Some(inverse) => number.times(*inverse),
+        None => number,
+    }
+}
+
+// Goes over 64 steps of a triangular matrix, given by columns without the diagonal.
+fn forward_word<F: Field>(room: &mut Marked<F>, w: usize, lines: &Lines<F>, inverses: &[F]) {
+    let mut left = u64::MAX;
+    for _ in 0..64 {
+        let Some(step) = next_step(room.word(w), &mut left, w) else {
+            return;
+        };
+        let number = divided(value_at(&room.numbers, step), inverses, step);
+        put_value(&mut room.numbers, step, number);
+        if !number.is_zero() {
+            room.take_off(lines.line(step), number);
+        }
+    }
+}
+
+// Goes over all its steps.
+fn forward_all<F: Field>(numbers: &mut [F], lines: &Lines<F>, inverses: &[F]) {
+    for step in 0..lines.len() {
+        let number = value_at(numbers, step);
+        if !number.is_zero() {
+            let number = divided(number, inverses, step);
+            put_value(numbers, step, number);
+            take_off(numbers, lines.line(step), number);
+        }
+    }
+}
+
+// Puts the solution of its equations in place of the right sides.
+fn forward<F: Field>(room: &mut Marked<F>, lines: &Lines<F>, inverses: &[F]) {
+    if room.is_many() {
+        forward_all(&mut room.numbers, lines, inverses);
+        return;
+    }
+    for w in 0..room.marks.len() {
+        forward_word(room, w, lines, inverses);
+    }
+}
+
+// Goes over 64 steps of a triangular matrix backwards, and puts their numbers into the solution under the steps' names.
+fn backward_word<F: Field>(
+    room: &mut Marked<F>,
+    w: usize,
+    lines: &Lines<F>,
+    inverses: &[F],
+    names: &[usize],
+    solution: &mut Sparse<F>,
+) -> Result<(), AllocError> {
+    for _ in 0..64 {
+        let Some(step) = room.take_last(w) else {
+            return Ok(());
+        };
+        let number = divided(value_at(&room.numbers, step), inverses, step);
+        put_value(&mut room.numbers, step, F::zero());
+        if !number.is_zero() && !number.is_negligible() {
+            room.take_off(lines.line(step), number);
+            solution.put(at(names, step), number)?;
+        }
+    }
+    Ok(())
+}
+
+// Goes over all its steps backwards.
+fn backward_all<F: Field>(
+    numbers: &mut [F],
+    lines: &Lines<F>,
+    inverses: &[F],
+    names: &[usize],
+    solution: &mut [F],
+) {
+    for step in (0..lines.len()).rev() {
+        let number = value_at(numbers, step);
+        if !number.is_zero() {
+            let number = divided(number, inverses, step);
+            put_value(numbers, step, F::zero());
+            take_off(numbers, lines.line(step), number);
+            put_value(solution, at(names, step), number);
+        }
+    }
+}
+
+// The solution of its equations, under the steps' names. The room is as before it was used.
+fn backward<F: Field>(
+    room: &mut Marked<F>,
+    lines: &Lines<F>,
+    inverses: &[F],
+    names: &[usize],
+    solution: &mut Sparse<F>,
+) -> Result<(), AllocError> {
+    if room.is_many() {
+        backward_all(
+            &mut room.numbers,
+            lines,
+            inverses,
+            names,
+            &mut solution.numbers,
+        );
+        room.clear_marks();
+        return solution.note_all();
+    }
+    for w in (0..room.marks.len()).rev() {
+        backward_word(room, w, lines, inverses, names, solution)?;
+    }
+    room.count = 0;
+    Ok(())
+}
+
 impl<F: Field> Ordered<F> {
     /// How many numbers the factors have.
     pub fn size(&self) -> usize {
         let off_pivots = self.lower.size().wrapping_add(self.upper.size());
         off_pivots.wrapping_add(self.rows.len())
-    }
-
-    // Goes over 64 steps of the lower factor.
-    fn lower_word(&self, room: &mut Marked<F>, w: usize) {
-        let mut left = u64::MAX;
-        for _ in 0..64 {
-            let Some(step) = next_step(room.word(w), &mut left, w) else {
-                return;
-            };
-            let number = value_at(&room.numbers, step);
-            if !number.is_zero() {
-                room.take_off(self.lower.line(step), number);
-            }
-        }
-    }
-
-    // Goes over all steps of the lower factor.
-    fn lower_all(&self, room: &mut Marked<F>) {
-        for step in 0..self.rows.len() {
-            let number = value_at(&room.numbers, step);
-            if !number.is_zero() {
-                take_off(&mut room.numbers, self.lower.line(step), number);
-            }
-        }
-    }
-
-    // From right sides to what the upper factor takes.
-    fn through_lower(&self, room: &mut Marked<F>) {
-        if room.is_many() {
-            self.lower_all(room);
-            return;
-        }
-        for w in 0..room.marks.len() {
-            self.lower_word(room, w);
-        }
-    }
-
-    // Goes over 64 steps of the upper factor, backwards, and writes their numbers to the solution.
-    fn upper_word(
-        &self,
-        room: &mut Marked<F>,
-        w: usize,
-        solution: &mut Sparse<F>,
-    ) -> Result<(), AllocError> {
-        for _ in 0..64 {
-            let Some(step) = room.take_last(w) else {
-                return Ok(());
-            };
-            let number = value_at(&room.numbers, step).times(value_at(&self.inverses, step));
-            put_value(&mut room.numbers, step, F::zero());
-            if !number.is_zero() && !number.is_negligible() {
-                room.take_off(self.upper_turned.line(step), number);
-                solution.put(at(&self.columns, step), number)?;
-            }
-        }
-        Ok(())
-    }
-
-    // The solution of the upper factor's equations, from all steps.
-    fn upper_all(&self, room: &mut Marked<F>, solution: &mut Sparse<F>) -> Result<(), AllocError> {
-        for step in (0..self.rows.len()).rev() {
-            let number = value_at(&room.numbers, step);
-            if !number.is_zero() {
-                let number = number.times(value_at(&self.inverses, step));
-                put_value(&mut room.numbers, step, F::zero());
-                take_off(&mut room.numbers, self.upper_turned.line(step), number);
-                put_value(&mut solution.numbers, at(&self.columns, step), number);
-            }
-        }
-        room.clear_marks();
-        solution.note_all()
-    }
-
-    // Solves the equations of the upper factor, over the steps that are noted to be gone over.
-    fn through_upper(
-        &self,
-        room: &mut Marked<F>,
-        solution: &mut Sparse<F>,
-    ) -> Result<(), AllocError> {
-        for w in (0..room.marks.len()).rev() {
-            self.upper_word(room, w, solution)?;
-        }
-        room.count = 0;
-        Ok(())
     }
 
     /// Solves the matrix times the unknowns for a right side that stands by row, and is used up. The solution stands by
@@ -418,102 +428,14 @@ impl<F: Field> Ordered<F> {
     ) -> Result<(), AllocError> {
         solution.clear();
         room.put_all(right, &self.row_steps);
-        self.through_lower(room);
-        if room.is_many() {
-            self.upper_all(room, solution)
-        } else {
-            self.through_upper(room, solution)
-        }
-    }
-
-    // Goes over 64 steps of the transposed upper factor.
-    fn upper_turned_word(&self, room: &mut Marked<F>, w: usize) {
-        let mut left = u64::MAX;
-        for _ in 0..64 {
-            let Some(step) = next_step(room.word(w), &mut left, w) else {
-                return;
-            };
-            let number = value_at(&room.numbers, step).times(value_at(&self.inverses, step));
-            put_value(&mut room.numbers, step, number);
-            if !number.is_zero() {
-                room.take_off(self.upper.line(step), number);
-            }
-        }
-    }
-
-    // Goes over all steps of the transposed upper factor.
-    fn upper_turned_all(&self, room: &mut Marked<F>) {
-        for step in 0..self.rows.len() {
-            let mut number = value_at(&room.numbers, step);
-            if !number.is_zero() {
-                number = number.times(value_at(&self.inverses, step));
-                put_value(&mut room.numbers, step, number);
-                take_off(&mut room.numbers, self.upper.line(step), number);
-            }
-        }
-    }
-
-    // From right sides to what the transposed lower factor takes.
-    fn through_upper_turned(&self, room: &mut Marked<F>) {
-        if room.is_many() {
-            self.upper_turned_all(room);
-            return;
-        }
-        for w in 0..room.marks.len() {
-            self.upper_turned_word(room, w);
-        }
-    }
-
-    // Goes over 64 steps of the transposed lower factor, backwards, and writes their numbers to the solution.
-    fn lower_turned_word(
-        &self,
-        room: &mut Marked<F>,
-        w: usize,
-        solution: &mut Sparse<F>,
-    ) -> Result<(), AllocError> {
-        for _ in 0..64 {
-            let Some(step) = room.take_last(w) else {
-                return Ok(());
-            };
-            let number = value_at(&room.numbers, step);
-            put_value(&mut room.numbers, step, F::zero());
-            if !number.is_zero() && !number.is_negligible() {
-                room.take_off(self.lower_turned.line(step), number);
-                solution.put(at(&self.rows, step), number)?;
-            }
-        }
-        Ok(())
-    }
-
-    // The solution of the transposed lower factor's equations, from all steps.
-    fn lower_turned_all(
-        &self,
-        room: &mut Marked<F>,
-        solution: &mut Sparse<F>,
-    ) -> Result<(), AllocError> {
-        for step in (0..self.rows.len()).rev() {
-            let number = value_at(&room.numbers, step);
-            if !number.is_zero() {
-                put_value(&mut room.numbers, step, F::zero());
-                take_off(&mut room.numbers, self.lower_turned.line(step), number);
-                put_value(&mut solution.numbers, at(&self.rows, step), number);
-            }
-        }
-        room.clear_marks();
-        solution.note_all()
-    }
-
-    // Solves the equations of the transposed lower factor, over the steps that are noted to be gone over.
-    fn through_lower_turned(
-        &self,
-        room: &mut Marked<F>,
-        solution: &mut Sparse<F>,
-    ) -> Result<(), AllocError> {
-        for w in (0..room.marks.len()).rev() {
-            self.lower_turned_word(room, w, solution)?;
-        }
-        room.count = 0;
-        Ok(())
+        forward(room, &self.lower, &[]);
+        backward(
+            room,
+            &self.upper_turned,
+            &self.inverses,
+            &self.columns,
+            solution,
+        )
     }
 
     /// Solves the transposed matrix times the unknowns for a right side that stands by column, and is used up. The solution
@@ -526,11 +448,7 @@ impl<F: Field> Ordered<F> {
     ) -> Result<(), AllocError> {
         solution.clear();
         room.put_all(right, &self.column_steps);
-        self.through_upper_turned(room);
-        if room.is_many() {
-            self.lower_turned_all(room, solution)
-        } else {
-            self.through_lower_turned(room, solution)
-        }
+        forward(room, &self.upper, &self.inverses);
+        backward(room, &self.lower_turned, &[], &self.rows, solution)
     }
 }
