@@ -8,13 +8,13 @@ use lp_sparse::wide::{Words, product, times_wide};
 use lp_sparse::{Solved, System, Whole, lifted_solution};
 use std::alloc::{AllocError, Global};
 
-// The solution divided by a number: its denominator times `by`.
-fn over(alloc: Global, solved: Solved, by: &[u64]) -> Result<Solved, AllocError> {
+// Makes the denominator of a solution so many times as large.
+fn over(alloc: Global, solved: &mut Solved, by: &[u64]) -> Result<(), AllocError> {
     if let [1] = by {
-        return Ok(solved);
+        return Ok(());
     }
-    let denominator = product(alloc, by, &solved.denominator)?;
-    Ok(solved.with_denominator(denominator))
+    solved.denominator = product(alloc, by, &solved.denominator)?;
+    Ok(())
 }
 
 /// What the basic structural columns have where the columns that are not basic have these values: their numbers, in the
@@ -35,10 +35,11 @@ pub(crate) fn solve_columns(
         is_turned: false,
         is_short: whole.is_short,
     };
-    match lifted_solution(alloc, system, &right, whole.row_bits)? {
-        Some(solved) => Ok(Some(over(alloc, solved, &right.denominator)?)),
-        None => Ok(None),
-    }
+    let Some(mut solved) = lifted_solution(alloc, system, &right, whole.row_bits)? else {
+        return Ok(None);
+    };
+    over(alloc, &mut solved, &right.denominator)?;
+    Ok(Some(solved))
 }
 
 // A magnitude times the scale of a row.
@@ -57,32 +58,16 @@ fn times_scale(
     }
 }
 
-// A number times the scale of a row.
-fn scaled(alloc: Global, scales: &Scales, i: usize, number: &Whole) -> Result<Whole, AllocError> {
-    Ok(Whole {
-        is_negative: number.is_negative,
-        words: times_scale(alloc, scales, i, &number.words)?,
-    })
-}
-
-// Adds to a list each number times the scale of its row.
-fn put_times_scales(
+// Makes each numerator so many times as large as the scale of its row says.
+fn scale_numerators(
     alloc: Global,
     prepared: &Prepared,
-    numbers: &[Whole],
-    list: &mut Vec<Whole>,
+    numerators: &mut [Whole],
 ) -> Result<(), AllocError> {
-    for (number, i) in numbers.iter().zip(&prepared.kernel.rows) {
-        list.push(scaled(alloc, &prepared.whole.scales, *i, number)?)?;
+    for (number, i) in numerators.iter_mut().zip(&prepared.kernel.rows) {
+        number.words = times_scale(alloc, &prepared.whole.scales, *i, &number.words)?;
     }
     Ok(())
-}
-
-// Each number times the scale of its row.
-fn times_scales(alloc: Global, prepared: &Prepared, solved: Solved) -> Result<Solved, AllocError> {
-    let mut numerators = Vec::with_capacity(alloc, solved.numerators.len())?;
-    put_times_scales(alloc, prepared, &solved.numerators, &mut numerators)?;
-    Ok(solved.with_numerators(numerators))
 }
 
 /// The multipliers of the kernel's rows, in their order, with which the basic columns cost nothing, from what each column
@@ -103,11 +88,10 @@ pub(crate) fn solve_rows(
         is_turned: true,
         is_short: whole.is_short,
     };
-    match lifted_solution(alloc, system, &right, whole.column_bits)? {
-        Some(solved) => {
-            let solved = over(alloc, solved, &right.denominator)?;
-            Ok(Some(times_scales(alloc, prepared, solved)?))
-        }
-        None => Ok(None),
-    }
+    let Some(mut solved) = lifted_solution(alloc, system, &right, whole.column_bits)? else {
+        return Ok(None);
+    };
+    over(alloc, &mut solved, &right.denominator)?;
+    scale_numerators(alloc, prepared, &mut solved.numerators)?;
+    Ok(Some(solved))
 }
