@@ -2,9 +2,7 @@
 use crate::number::{at, index_at, product, put, put_index};
 use crate::program::Program;
 use crate::sparse::{add_line, put_in};
-use lp_sparse::{
-    Entry, Factored, Factors, Lines, Marked, Matrix, Ordered, Sparse, factorize, order_factors,
-};
+use lp_sparse::{Entry, Factored, Lines, Marked, Ordered, Sparse, factorize, order_factors};
 use std::alloc::{AllocError, Global};
 
 /// The position of a column that has none.
@@ -53,40 +51,40 @@ impl Drop for Basis {
     }
 }
 
-// The numbers of the logical columns, one for each row.
-fn logicals(alloc: Global, program: &Program) -> Result<Vec<usize>, AllocError> {
-    let mut head = Vec::with_capacity(alloc, program.rows)?;
+// Puts the logical columns of all rows in place of all columns.
+fn put_logicals(head: &mut Vec<usize>, program: &Program) -> Result<(), AllocError> {
+    head.clear();
     for i in 0..program.rows {
         head.push(program.logical(i))?;
-    }
-    Ok(head)
-}
-
-// Adds the numbers of a line to the matrix's column that is not ended.
-fn put_line(matrix: &mut Matrix<f64>, line: &[Entry<f64>]) -> Result<(), AllocError> {
-    for entry in line {
-        matrix.put(entry.place, entry.value)?;
     }
     Ok(())
 }
 
-// Adds a column of the program to a matrix, and ends it.
-fn put_column(matrix: &mut Matrix<f64>, program: &Program, k: usize) -> Result<(), AllocError> {
-    if program.is_logical(k) {
-        matrix.put(program.row_of(k), -1.0)?;
-    } else {
-        put_line(matrix, program.columns.line(k))?;
+// Puts the numbers of a line into the line that is not ended.
+fn put_line(lines: &mut Lines<f64>, line: &[Entry<f64>]) -> Result<(), AllocError> {
+    for entry in line {
+        lines.put(entry.place, entry.value)?;
     }
-    matrix.end_column()
+    Ok(())
 }
 
-// The matrix of these columns.
-fn matrix_of(alloc: Global, program: &Program, head: &[usize]) -> Result<Matrix<f64>, AllocError> {
-    let mut matrix = Matrix::new(alloc, program.rows);
-    for k in head {
-        put_column(&mut matrix, program, *k)?;
+// Puts a column of the program.
+fn put_column(lines: &mut Lines<f64>, program: &Program, k: usize) -> Result<(), AllocError> {
+    if program.is_logical(k) {
+        lines.put(program.row_of(k), -1.0)?;
+    } else {
+        put_line(lines, program.columns.line(k))?;
     }
-    Ok(matrix)
+    lines.end()
+}
+
+// These columns of the program.
+fn columns_of(alloc: Global, program: &Program, head: &[usize]) -> Result<Lines<f64>, AllocError> {
+    let mut lines = Lines::new(alloc);
+    for k in head {
+        put_column(&mut lines, program, *k)?;
+    }
+    Ok(lines)
 }
 
 // Makes the logical columns of the given rows basic in place of the columns at the given positions.
@@ -101,41 +99,14 @@ fn factored_or_mended(
     alloc: Global,
     program: &Program,
     head: &mut [usize],
-) -> Result<Option<Factors<f64>>, AllocError> {
-    let factored = factorize(alloc, &matrix_of(alloc, program, head)?)?;
+) -> Result<Option<Ordered<f64>>, AllocError> {
+    let columns = columns_of(alloc, program, head)?;
+    let factored = factorize(alloc, program.rows, &columns)?;
     match &factored {
-        Factored::Regular(_) => {}
-        Factored::Singular { rows, columns } => mend(head, program, rows, columns),
-    }
-    Ok(factored.regular())
-}
-
-// The factors of these columns, which are mended where they are singular, if that helps.
-fn factors_of(
-    alloc: Global,
-    program: &Program,
-    head: &mut [usize],
-) -> Result<Option<Factors<f64>>, AllocError> {
-    for _ in 0..MENDS {
-        match factored_or_mended(alloc, program, head)? {
-            Some(factors) => return Ok(Some(factors)),
-            None => {}
-        }
-    }
-    Ok(None)
-}
-
-// The factors of these columns, or else of the logical ones, which come in their place.
-fn factors_or_logical(
-    alloc: Global,
-    program: &Program,
-    head: &mut Vec<usize>,
-) -> Result<Option<Factors<f64>>, AllocError> {
-    match factors_of(alloc, program, head)? {
-        Some(factors) => Ok(Some(factors)),
-        None => {
-            *head = logicals(alloc, program)?;
-            factored_or_mended(alloc, program, head)
+        Factored::Regular(factors) => Ok(Some(order_factors(alloc, factors)?)),
+        Factored::Singular { rows, columns } => {
+            mend(head, program, rows, columns);
+            Ok(None)
         }
     }
 }
@@ -148,17 +119,6 @@ fn put_places(place: &mut Vec<usize>, head: &[usize], len: usize) -> Result<(), 
         put_index(place, *k, p);
     }
     Ok(())
-}
-
-// The factors by their steps.
-fn by_steps(
-    alloc: Global,
-    factors: Option<Factors<f64>>,
-) -> Result<Option<Ordered<f64>>, AllocError> {
-    match &factors {
-        Some(factors) => Ok(Some(order_factors(alloc, factors)?)),
-        None => Ok(None),
-    }
 }
 
 /// The basis of these columns. Where they are singular, logical ones come in their place.
@@ -182,10 +142,23 @@ pub(crate) fn basis_of(
 }
 
 impl Basis {
-    // Factors the columns. Where they are singular, logical ones come in their place.
+    // Factors the columns, which are mended where they are singular. Whether that helps.
+    fn is_factored(&mut self, alloc: Global, program: &Program) -> Result<bool, AllocError> {
+        for _ in 0..MENDS {
+            self.factors = factored_or_mended(alloc, program, &mut self.head)?;
+            if self.factors.is_some() {
+                return Ok(true);
+            }
+        }
+        Ok(false)
+    }
+
+    // Factors the columns, or else the logical ones, which come in their place.
     fn factor(&mut self, alloc: Global, program: &Program) -> Result<(), AllocError> {
-        let factors = factors_or_logical(alloc, program, &mut self.head)?;
-        self.factors = by_steps(alloc, factors)?;
+        if !self.is_factored(alloc, program)? {
+            put_logicals(&mut self.head, program)?;
+            self.factors = factored_or_mended(alloc, program, &mut self.head)?;
+        }
         put_places(&mut self.place, &self.head, program.len())
     }
 

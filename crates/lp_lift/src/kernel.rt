@@ -4,9 +4,7 @@ use crate::scales::{Scales, multiple, row_scales};
 use crate::statuses::{is_basic_at, put_status, resting};
 use crate::wide_kernel::long_whole;
 use lp_frac::Frac;
-use lp_sparse::{
-    Factored, Factors, Field, Lines, Matrix, PRIME, Residue, factorize, numbered, turned,
-};
+use lp_sparse::{Entry, Factored, Factors, Lines, PRIME, Residue, factorize, numbered, turned};
 use spec_pivot::Status;
 use std::alloc::{AllocError, Global};
 
@@ -293,30 +291,25 @@ pub(crate) fn whole_of(
 
 // ---- factors
 
-// The kernel modulo the prime.
-fn matrix_of(
+// The columns of a kernel modulo the prime.
+fn residues_of(
     alloc: Global,
     kernel: &Kernel,
     low: &Lines<i64>,
-) -> Result<Matrix<Residue>, AllocError> {
-    let mut matrix = Matrix::new(alloc, kernel.rows.len());
+) -> Result<Lines<Residue>, AllocError> {
+    let mut lines = Lines::new(alloc);
     for k in 0..kernel.columns.len() {
-        put_residues(&mut matrix, low, k)?;
-        matrix.end_column()?;
+        put_residues(&mut lines, low.line(k))?;
     }
-    Ok(matrix)
+    Ok(lines)
 }
 
-// Adds column `k`, modulo the prime, to the matrix.
-fn put_residues(
-    matrix: &mut Matrix<Residue>,
-    low: &Lines<i64>,
-    k: usize,
-) -> Result<(), AllocError> {
-    for entry in low.line(k) {
-        matrix.put(entry.place, Residue::of(i128::from(entry.value)))?;
+// Puts a column.
+fn put_residues(lines: &mut Lines<Residue>, line: &[Entry<i64>]) -> Result<(), AllocError> {
+    for entry in line {
+        lines.put(entry.place, Residue::of(i128::from(entry.value)))?;
     }
-    Ok(())
+    lines.end()
 }
 
 /// The factors of a kernel.
@@ -325,13 +318,11 @@ pub(crate) fn factored(
     kernel: &Kernel,
     whole: &WholeKernel,
 ) -> Result<Factored<Residue>, AllocError> {
-    match whole.columns.first() {
-        Some(low) => factorize(alloc, &matrix_of(alloc, kernel, low)?),
-        None => Ok(Factored::Singular {
-            rows: Vec::new(alloc),
-            columns: Vec::new(alloc),
-        }),
-    }
+    let columns = match whole.columns.first() {
+        Some(low) => residues_of(alloc, kernel, low)?,
+        None => Lines::new(alloc),
+    };
+    factorize(alloc, kernel.rows.len(), &columns)
 }
 
 /// Lets the structural columns of these positions be not basic, and the logicals of the rows of these.
@@ -402,15 +393,17 @@ pub(crate) fn prepare(
     let Some(whole) = whole_of(alloc, program, &kernel)? else {
         return Ok(Preparation::Past);
     };
-    match factored(alloc, &kernel, &whole)? {
-        Factored::Regular(factors) => Ok(Preparation::Ready(Prepared {
+    let factored = factored(alloc, &kernel, &whole)?;
+    match &factored {
+        Factored::Regular(_) => {}
+        Factored::Singular { rows, columns } => mend(program, &kernel, statuses, rows, columns),
+    }
+    match factored.regular() {
+        Some(factors) => Ok(Preparation::Ready(Prepared {
             kernel,
             whole,
             factors,
         })),
-        Factored::Singular { rows, columns } => {
-            mend(program, &kernel, statuses, &rows, &columns);
-            Ok(Preparation::Mended)
-        }
+        None => Ok(Preparation::Mended),
     }
 }

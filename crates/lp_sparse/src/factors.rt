@@ -12,7 +12,6 @@ use crate::factors::elimination::eliminate;
 use crate::factors::search::next_pivot;
 use crate::field::Field;
 use crate::lines::{Entry, Lines, at, turned};
-use crate::matrix::Matrix;
 use std::alloc::{AllocError, Global};
 
 /// The factors of a square matrix.
@@ -76,7 +75,6 @@ impl<F: Field> Drop for Factors<F> {
 }
 
 /// What a matrix comes to.
-#[derive(Drop)]
 pub enum Factored<F: Field> {
     /// It is square, and each row and column has a pivot.
     Regular(Factors<F>),
@@ -85,6 +83,18 @@ pub enum Factored<F: Field> {
         rows: Vec<usize>,
         columns: Vec<usize>,
     },
+}
+
+impl<F: Field> Drop for Factored<F> {
+    fn drop(self) {
+        match self {
+            Factored::Regular(factors) => drop(factors),
+            Factored::Singular { rows, columns } => {
+                drop(rows);
+                drop(columns);
+            }
+        }
+    }
 }
 
 impl<F: Field> Factored<F> {
@@ -129,22 +139,6 @@ fn put_value<F: Field>(numbers: &mut [F], k: usize, value: F) {
 }
 
 impl<F: Field> Factors<F> {
-    /// How many rows and columns there are.
-    pub fn len(&self) -> usize {
-        self.rows.len()
-    }
-
-    /// Whether the factors have no steps, as of a matrix without rows.
-    pub fn is_empty(&self) -> bool {
-        self.rows.is_empty()
-    }
-
-    /// How many numbers the factors have.
-    pub fn size(&self) -> usize {
-        let off_pivots = self.lower.size().wrapping_add(self.upper.size());
-        off_pivots.wrapping_add(self.rows.len())
-    }
-
     // From right sides to what the upper factor takes, both by row.
     fn through_lower(&self, right: &mut [F]) {
         for (k, row) in self.rows.iter().enumerate() {
@@ -255,9 +249,14 @@ fn has_factors<F: Field>(
     Ok(true)
 }
 
-/// The factors of a matrix, or a largest regular part of it.
-pub fn factorize<F: Field>(alloc: Global, matrix: &Matrix<F>) -> Result<Factored<F>, AllocError> {
-    let mut active = active_of(alloc, matrix)?;
+/// The factors of the matrix with so many rows and these columns, or a largest regular part of it. The numbers of the columns
+/// are not 0, and a row has one number at most in a column.
+pub fn factorize<F: Field>(
+    alloc: Global,
+    rows: usize,
+    columns: &Lines<F>,
+) -> Result<Factored<F>, AllocError> {
+    let mut active = active_of(alloc, rows, columns)?;
     let mut factors = Factors::new(alloc);
     if has_factors(alloc, &mut active, &mut factors)? {
         Ok(Factored::Regular(factors))

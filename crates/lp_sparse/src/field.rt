@@ -5,9 +5,6 @@ pub trait Field: Copy {
     /// What added to a number leaves it as it is.
     fn zero() -> Self;
 
-    /// What multiplied with a number leaves it as it is.
-    fn one() -> Self;
-
     /// Whether it is 0, and no number that is only near it.
     fn is_zero(self) -> bool;
 
@@ -35,12 +32,6 @@ impl Field for f64 {
     #[inline(always)]
     fn zero() -> Self {
         0.0
-    }
-
-    // The float 1.
-    #[inline(always)]
-    fn one() -> Self {
-        1.0
     }
 
     // Whether it is 0 or -0.

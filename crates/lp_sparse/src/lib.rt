@@ -5,7 +5,8 @@
 //! | `lifted_solution`, `Solved` | numerators on one denominator, from digits modulo powers of the prime | src/solution |
 //! | `System`, `Right` | equations by unknown with the factors of their matrix, and their right sides | src/lifting |
 //! | `congruent` | the fraction that has a residue | src/euclid |
-//! | `factorize`, `Factors`, `Matrix` | sparse factors over a field, or over floats | src/factors, src/matrix, src/lines |
+//! | `factorize`, `Factors` | sparse factors over a field, or over floats | src/factors |
+//! | `Lines`, `Entry` | rows or columns of a sparse matrix | src/lines |
 //! | `Ordered`, `Sparse`, `Marked` | factors by their steps, for right sides most of whose numbers are 0 | src/factors/by_steps |
 //! | `Field`, `Residue` | numbers of a matrix; residues modulo a prime | src/field, src/residue |
 //! | `digits`, `wide` | wide numbers to the base of the prime, and in words | src/digits, src/wide |
@@ -21,7 +22,6 @@ mod factors;
 mod field;
 mod lifting;
 mod lines;
-mod matrix;
 mod residue;
 mod solution;
 pub mod wide;
@@ -30,6 +30,5 @@ pub use factors::{Factored, Factors, Marked, Ordered, Sparse, factorize, order_f
 pub use field::Field;
 pub use lifting::{Right, System};
 pub use lines::{Entry, Lines, numbered, turned};
-pub use matrix::Matrix;
 pub use residue::{PRIME, Residue};
 pub use solution::{Solved, Whole, lifted_solution};

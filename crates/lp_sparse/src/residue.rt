@@ -88,12 +88,6 @@ impl Field for Residue {
         Residue { word: 0 }
     }
 
-    // The residue 1.
-    #[inline(always)]
-    fn one() -> Self {
-        Residue { word: 1 }
-    }
-
     // Whether the prime divides the number that it stands for.
     #[inline(always)]
     fn is_zero(self) -> bool {

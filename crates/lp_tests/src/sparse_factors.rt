@@ -1,19 +1,19 @@
 // Sparse factors of small matrices over residues.
-use lp_sparse::{Factored, Field, Matrix, Residue, factorize};
+use lp_sparse::{Factored, Field, Lines, Residue, factorize};
 use std::alloc::{AllocError, Global};
 use std::test::Fail;
 
-// The matrix with the rows 2 1 0, 0 3 1 and 4 0 5.
-fn three<F: Field>(alloc: Global, numbers: &[F]) -> Result<Matrix<F>, AllocError> {
+// The columns of the matrix with the rows 2 1 0, 0 3 1 and 4 0 5.
+fn three<F: Field>(alloc: Global, numbers: &[F]) -> Result<Lines<F>, AllocError> {
     let places = [0usize, 2, 0, 1, 1, 2];
-    let mut matrix = Matrix::new(alloc, 3);
+    let mut columns = Lines::new(alloc);
     for (k, (row, number)) in places.iter().zip(numbers).enumerate() {
-        matrix.put(*row, *number)?;
+        columns.put(*row, *number)?;
         if k % 2 == 1 {
-            matrix.end_column()?;
+            columns.end()?;
         }
     }
-    Ok(matrix)
+    Ok(columns)
 }
 
 // The factors of a matrix solve it and its transpose modulo the prime.
@@ -21,8 +21,8 @@ fn three<F: Field>(alloc: Global, numbers: &[F]) -> Result<Matrix<F>, AllocError
 fn solves_modulo_the_prime(rt: HostRuntime) -> Result<(), Fail> {
     let alloc = rt.alloc();
     let numbers = [2u64, 4, 1, 3, 1, 5].map(Residue::new);
-    let matrix = three(alloc, &numbers)?;
-    let factored = factorize(alloc, &matrix)?;
+    let columns = three(alloc, &numbers)?;
+    let factored = factorize(alloc, columns.len(), &columns)?;
     let Factored::Regular(factors) = &factored else {
         panic!(rt; "singular");
     };
@@ -44,32 +44,32 @@ fn next(state: &mut u64) -> u64 {
     *state >> 33
 }
 
-// A matrix of small numbers with few in a column, and on the diagonal.
-fn sparse(alloc: Global, size: usize, state: &mut u64) -> Result<Matrix<Residue>, AllocError> {
-    let mut matrix = Matrix::new(alloc, size);
+// The columns of a square matrix of small numbers, with few in a column, and on the diagonal.
+fn sparse(alloc: Global, size: usize, state: &mut u64) -> Result<Lines<Residue>, AllocError> {
+    let mut columns = Lines::new(alloc);
     for j in 0..size {
         for i in 0..size {
             let draw = next(state) % 12;
             if i == j || draw < 2 {
-                matrix.put(i, Residue::of(if draw % 2 == 0 { 1 } else { -1 }))?;
+                columns.put(i, Residue::of(if draw % 2 == 0 { 1 } else { -1 }))?;
             }
         }
-        matrix.end_column()?;
+        columns.end()?;
     }
-    Ok(matrix)
+    Ok(columns)
 }
 
-// The product of a matrix and a list of numbers, modulo the prime.
+// The square matrix with these columns times numbers.
 fn product(
     alloc: Global,
-    matrix: &Matrix<Residue>,
+    columns: &Lines<Residue>,
     x: &[Residue],
 ) -> Result<Vec<Residue>, AllocError> {
-    let mut sums = Vec::from_elem(alloc, Residue::zero(), matrix.rows())?;
+    let mut sums = Vec::from_elem(alloc, Residue::zero(), columns.len())?;
     for (j, number) in x.iter().enumerate() {
-        for entry in matrix.column(j) {
+        for entry in columns.line(j) {
             if let Some(sum) = sums.get_mut(entry.place) {
-                let opposite = Residue::zero().less_product(Residue::one(), entry.value);
+                let opposite = Residue::zero().less_product(Residue::new(1), entry.value);
                 *sum = sum.less_product(*number, opposite);
             }
         }
@@ -85,18 +85,18 @@ fn solves_sparse_matrices(rt: HostRuntime) -> Result<(), Fail> {
     let mut solved = 0u32;
     for round in 0..6usize {
         let size = 5 + 3 * round;
-        let matrix = sparse(alloc, size, &mut state)?;
+        let columns = sparse(alloc, size, &mut state)?;
         let mut right = Vec::new(alloc);
         for _ in 0..size {
             right.push(Residue::new(next(&mut state)))?;
         }
         let mut used = Vec::from_slice(alloc, &right)?;
         let mut x = Vec::from_elem(alloc, Residue::zero(), size)?;
-        let factored = factorize(alloc, &matrix)?;
+        let factored = factorize(alloc, columns.len(), &columns)?;
         if let Factored::Regular(factors) = &factored {
             solved = solved.saturating_add(1);
             factors.solve(&mut used, &mut x);
-            let sums = product(alloc, &matrix, &x)?;
+            let sums = product(alloc, &columns, &x)?;
             for (sum, wanted) in sums.iter().zip(&right) {
                 assert_eq!(rt; sum.word(), wanted.word());
             }

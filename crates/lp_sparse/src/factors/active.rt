@@ -1,8 +1,7 @@
 // What is left of a matrix while it is factored.
 use crate::factors::buckets::Buckets;
 use crate::field::Field;
-use crate::lines::{Entry, at, put};
-use crate::matrix::Matrix;
+use crate::lines::{Entry, Lines, at, put};
 use std::alloc::{AllocError, Global};
 use std::mem;
 
@@ -74,10 +73,11 @@ fn count<T>(buckets: &mut Buckets, lists: &[Vec<T>]) {
     }
 }
 
-/// The active part of a factorization that has taken no pivot yet: all rows and columns of the matrix.
+/// A whole matrix with so many rows and these columns.
 pub(crate) fn active_of<F: Field>(
     alloc: Global,
-    matrix: &Matrix<F>,
+    rows: usize,
+    columns: &Lines<F>,
 ) -> Result<Active<F>, AllocError> {
     let mut active = Active {
         rows: Vec::new(alloc),
@@ -86,18 +86,23 @@ pub(crate) fn active_of<F: Field>(
         by_column: Buckets::new(alloc),
         marks: Vec::new(alloc),
     };
-    active.put_matrix(alloc, matrix)?;
-    active.note_counts(matrix.rows(), matrix.columns())?;
+    active.put_columns(alloc, rows, columns)?;
+    active.note_counts(rows, columns.len())?;
     Ok(active)
 }
 
 impl<F: Field> Active<F> {
-    // Adds the numbers of a matrix to the active rows and columns.
-    fn put_matrix(&mut self, alloc: Global, matrix: &Matrix<F>) -> Result<(), AllocError> {
-        put_rows(alloc, &mut self.rows, matrix.rows())?;
-        for j in 0..matrix.columns() {
+    // Puts so many rows and the numbers of these columns in.
+    fn put_columns(
+        &mut self,
+        alloc: Global,
+        rows: usize,
+        columns: &Lines<F>,
+    ) -> Result<(), AllocError> {
+        put_rows(alloc, &mut self.rows, rows)?;
+        for j in 0..columns.len() {
             self.columns
-                .push(spread(alloc, &mut self.rows, matrix.column(j), j)?)?;
+                .push(spread(alloc, &mut self.rows, columns.line(j), j)?)?;
         }
         Ok(())
     }
