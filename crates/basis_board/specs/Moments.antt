@@ -63,13 +63,13 @@ pub record IsLike (ws us : List ℕ) : Type 0 where
   pub counted : count us ≡ count ws
   pub dones : (k : ℕ) → done us k ≡ done ws k
 
--- place k is claimed, and nothing else befalls any place
+-- place k is claimed, one place more than before, and the same places are done; of payloads nothing is asked
 pub record ClaimsPlace (k : ℕ) (ws us : List ℕ) : Type 0 where
   pub before : count ws ≡ k
   pub after : count us ≡ k + 1
   pub dones : (j : ℕ) → done us j ≡ done ws j
 
--- place k becomes done, and nothing else befalls any place
+-- place k becomes done, each other place is done or not as before, and as many are claimed; of payloads nothing is asked
 pub record FinishesPlace (k : ℕ) (ws us : List ℕ) : Type 0 where
   pub counted : count us ≡ count ws
   pub before : done ws k ≡ 0
@@ -85,11 +85,11 @@ Turns other ws us = IsLike ws us
 
 -- ---- the notes of all passes
 
--- 1 where the pass made note number t
+-- how many of these moments have number t: at most one while the rule of moments holds
 abbrev pub stamped_in : ℕ → List Moment → ℕ
 stamped_in t ms = total (λ m. one_if (m.0 == t)) ms
 
--- 1 where the pass noted the read of number t, and else 0
+-- how many moments with number t a pass noted: at most one while the rule of moments holds
 abbrev pub stamped : ℕ → Sight → ℕ
 stamped t v = stamped_in t v.moments
 

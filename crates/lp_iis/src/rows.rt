@@ -88,7 +88,7 @@ fn row_with(alloc: Global, row: &Row, lower: bool, upper: bool) -> Result<Row, A
     }
 }
 
-// Row `i` with its sides that are listed.
+// Row `i` with its sides that are listed. It keeps both sides where neither is listed.
 fn row_at(alloc: Global, model: &Model, sides: &[Side], i: u32) -> Result<Row, AllocError>
     requires inside { i < height model.now }
     requires read { All (IsRead (Some number_limit) model.now) sides.now }

@@ -25,7 +25,7 @@ bound_made (Err code) = Err code
 abbrev pub texts_seen : BoundTexts → bounds.BoundTexts
 texts_seen texts = record { set = option_copied texts.set; column = texts.column.now; value = texts.value.now }
 
--- the definition's texts, or the code of their fault
+-- what the code gives of the texts, as the definition has it: the set, the column and the value, or the code of the fault
 abbrev pub texts_made : Result BoundTexts Code → Check bounds.BoundTexts
 texts_made (Ok texts) = Ok (texts_seen texts)
 texts_made (Err code) = Err code

@@ -11,7 +11,7 @@ abbrev pub Ends : Outcome → Result Model Fault → Type 0
 Ends outcome (Ok m) = outcome ≡ Ok (Done m)
 Ends outcome (Err fault) = Fails outcome fault
 
--- the model of a text that has ended may be kept
+-- where the text has ended with a model, the model may be kept; else nothing is asked
 abbrev pub IsKept : Outcome → Type 0
 IsKept (Ok (Done m)) = IsModel m
 IsKept (Ok (More s)) = Unit {0}

@@ -27,7 +27,7 @@ use Rattle.lp_revised.proofs.Renewed.{stops_after}
 abbrev pub GoesOn : Choice ℚ → Type 0
 GoesOn choice = (end : PrimalEnd) → choice ≡ End end → ⊥
 
--- an end has the column that nothing stops
+-- where a step ends the run, it ends as `Optimal` without an entering column, else as `Unbounded` by that column
 pub ends_with : (f : Form) (s : Revised) (column : Option Column) (choice : Choice ℚ) (end : PrimalEnd) →
     choice ≡ End end →
     CanDo f s column choice → EndsWith s.bare column end

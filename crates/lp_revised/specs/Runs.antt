@@ -44,7 +44,7 @@ abbrev pub ended_of : List (RowStart ℚ) → Revised → ℕ → StepsEnd → R
 ended_of starts s used e =
     record { end = e.end; state = s; selection = selection_at starts s.bare e; used = used }
 
--- an end has the column that nothing stops, which is given by places, and no other
+-- an end of a run: `Optimal` where no column enters, and else `Unbounded` by the entering column, which is given by places
 abbrev pub EndsWith : Tableau → Option Column → PrimalEnd → Type 0
 EndsWith t None end = end ≡ Optimal
 EndsWith t (Some c) Optimal = ⊥

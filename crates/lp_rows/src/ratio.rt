@@ -113,7 +113,8 @@ fn room<T: Words>(way: Way, bound: Signed<T>, value: Signed<T>, denominator: T) 
     }
 }
 
-// The gap between a value and a bound, if there is such a bound.
+// How far a value is below a bound (`Up`) or above it (`Down`), over the row's denominator, with the status at the bound.
+// It is below 0 where the value is past the bound. There is no gap where there is no bound.
 fn gap_to<T: Words>(
     way: Way,
     bound: Option<Signed<T>>,

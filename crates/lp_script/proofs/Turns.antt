@@ -70,7 +70,7 @@ start places left taken reading sessions is_start are_opening = record {
   written = Appends-nil taken;
 }
 
--- a step of a session among these, where they share so many places
+-- a step of a session that shares so many places with others is an `AloneStep` over so many places
 step_in : {before new : State} {asked : ExactAsk} {old sharing : Sharing} {reply : ExactReply} (places : ℕ) →
     old.places ≡ places → (s : SharesStep before asked old reply new sharing) →
     AloneStep places before asked s.reads reply new

@@ -5,6 +5,6 @@ use Rattle.std.specs.Prelude.{ℕ, ◌^◌}
 unfoldable pub half_line : ℕ
 half_line = 7680
 
--- the power of ten below which a natural number has no more digits
+-- 10 to the power of `half_line`: a natural number below this has at most `half_line` digits
 unfoldable pub line_power : ℕ
 line_power = 10 ^ half_line

@@ -47,7 +47,8 @@ fn load(alloc: Global, world: &mut World, session: u32) -> Result<(), AllocError
     Ok(())
 }
 
-// A session solves, up to the claim of a place. It sees place 0 where that is claimed, and else cannot.
+// The world takes the acts of a session's solve, up to the claim of a place. The act that sees place 0 is refused where
+// place 0 is not claimed.
 fn come_to_the_claim(alloc: Global, world: &mut World, session: u32) {
     step(alloc, world, session, Act::Ask(Ask::Plain(Plain::Solve)));
     step(alloc, world, session, Act::Count);

@@ -29,7 +29,7 @@ changed_column change m j = record m { columns = slice_set m.columns j (change (
 abbrev pub entry_if : ℕ → ℚ → List (ℕ × ℚ)
 entry_if i v = if eq_ℚ v 0ℚ then [] else (i, v) ∷ []
 
--- the entries with v in row i, whatever was there before
+-- the entries with v in row i, whatever was there before; without an entry there where v is 0
 unfoldable pub with_entry : ℕ → ℚ → List (ℕ × ℚ) → List (ℕ × ℚ)
 with_entry i v entries = filter (λ e. nat_lt e.0 i) entries ++ entry_if i v ++ filter (λ e. nat_lt i e.0) entries
 

@@ -6,7 +6,7 @@ use Rattle.spec_model.specs.Model.{Name}
 use Rattle.spec_mps.specs.Fields.{Fields, texts_of}
 use Rattle.spec_mps.specs.NumberCards.{Pairs}
 
--- what the texts of a card say
+-- what the texts of a card of COLUMNS say: the name of a column, and pairs of a row's name and a number
 pub record ColumnTexts : Type 0 where
   pub column : Name
   pub pairs : Pairs

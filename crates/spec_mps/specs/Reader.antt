@@ -206,7 +206,7 @@ column_by limits s (name ∷ texts) = do
   t ← opened limits s name
   column_pairs t (pairs_of texts)
 
--- the number of the field that says 'MARKER' on a card that marks integer columns
+-- the number of the field that says 'MARKER' on a card that marks integer columns: 2 in free form, 3 in fixed form
 abbrev pub marker_field : Style → ℕ
 marker_field Free = 2
 marker_field Fixed = 3

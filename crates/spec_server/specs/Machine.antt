@@ -99,7 +99,7 @@ abbrev pub fixed_reply : Model → Option (List ℕ) → ExactReply
 fixed_reply m None = reply.Written (fixed m)
 fixed_reply m (Some item) = reply.Refused (refusal.FixedWide item)
 
--- a model's text in a style, as a reply
+-- the reply with a model's text in a style; in fixed form a refusal, where an item is too wide
 abbrev pub text_reply : Model → Style → ExactReply
 text_reply m style.Free = reply.Written (free m)
 text_reply m style.Fixed = fixed_reply m (too_wide m)

@@ -49,7 +49,7 @@ above_by limit u v Less = Ok None
 above_by limit u v Equal = Ok None
 above_by limit u v Greater = difference_run limit v u >>= λ gap. Ok (Some gap)
 
--- how much v is above an upper limit, where there is one and v is above it
+-- how much v is above an upper limit; none where there is no limit, or v is not above it
 abbrev pub above_run : Option ℕ → Option ℚ → ℚ → Run (Option ℚ)
 above_run limit None v = Ok None
 above_run limit (Some u) v = order_run limit v u >>= λ o. above_by limit u v o

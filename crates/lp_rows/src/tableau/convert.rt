@@ -42,21 +42,21 @@ fn reduced(alloc: Global, tab: &Tableau) -> Result<Vec<Frac>, AllocError>
     listed!(alloc, k in 0..tab.cols() + tab.rows() => tab.reduced(k))
 }
 
-// The lower bounds of all columns.
+// The lower bounds of all columns of the tableau, also of the artificial ones.
 fn lowers(alloc: Global, tab: &Tableau) -> Result<Vec<Option<Frac>>, AllocError>
     ensures { IfOk result (λ v. v.items ≡ made (tableaus.all_columns tab.now) (tableaus.lower_at tab.now)) }
 {
     listed!(alloc, k in 0..tab.width() => tab.lower(k))
 }
 
-// The upper bounds of all columns.
+// The upper bounds of all columns of the tableau, also of the artificial ones.
 fn uppers(alloc: Global, tab: &Tableau) -> Result<Vec<Option<Frac>>, AllocError>
     ensures { IfOk result (λ v. v.items ≡ made (tableaus.all_columns tab.now) (tableaus.upper_at tab.now)) }
 {
     listed!(alloc, k in 0..tab.width() => tab.upper(k))
 }
 
-// The statuses of all columns.
+// The statuses of all columns of the tableau, also of the artificial ones.
 fn statuses(alloc: Global, tab: &Tableau) -> Result<Vec<Status>, AllocError>
     ensures { IfOk result (λ v. v.items ≡ made (tableaus.all_columns tab.now) (tableaus.status_at tab.now)) }
 {
