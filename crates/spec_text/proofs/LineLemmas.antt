@@ -1,11 +1,13 @@
 -- The lines of a text, taken from its start one by one.
 --
--- `lines_of_line`: a line that a line feed ends comes before the lines of the bytes after it.
+-- `lines_of_line`: a line that a line feed ends, less one carriage return, comes before the lines of the bytes after
+--   it.
 -- `lines_of_last`: bytes without a line feed are one line, where there is a byte.
 -- `lines_of_none`: no bytes have no lines.
 -- `line_short`: a line of at most 16,384 bytes is kept with its bytes.
 -- `line_long`: of a longer line only its length is kept.
--- `ended_lines_of_line`: a line that a line feed ends comes before the ended lines of the bytes after it.
+-- `ended_lines_of_line`: a line that a line feed ends, less one carriage return, comes before the ended lines of the
+--   bytes after it.
 -- `ended_lines_of_last`: bytes without a line feed have no ended line.
 -- `line_of_cases`: a line is kept with its bytes or with its length.
 use Rattle.std.proofs.Common.{◌≡◌, ℕ, Bool, true, false, List, [], ◌∷◌, ◌++◌, All, ◌≢◌, eqb, refl, ap, ◌∙◌}
@@ -19,7 +21,7 @@ use Rattle.std.proofs.lemmas.Bool.Decides.{nat_tests}
 use Rattle.spec_text.specs.Lines.{lines_of, line_of, ended_lines_of, all_but_last}
 use Rattle.spec_text.specs.declared.line.Line.TheVariants.{Text, Long}
 
--- there is always a first part
+-- where another part follows a first one, the first line is that first part, less one carriage return
 parts_more : (x : List ℕ) (parts : List (List ℕ)) → (y : List ℕ) (more : List (List ℕ)) → parts ≡ y ∷ more →
     lines_of_parts (x ∷ parts) ≡ strip_carriage_return x ∷ lines_of_parts parts
 parts_more x [] y more h = cc
@@ -56,7 +58,7 @@ pub lines_of_line : (line more : List ℕ) → All (λ b. b ≢ 10) line →
 unfolding lines_of
 lines_of_line line more h = ap (λ ls. map line_of ls) (lines_first line more (tests_false line h))
 
--- the last part is a line where it has a byte
+-- a lone part is a line, as it stands, where it has a byte
 last_line : (x : List ℕ) → 0 < length x → lines_of_parts (x ∷ []) ≡ x ∷ []
 last_line x some = grind (arith, nat_tests)
 
@@ -79,7 +81,7 @@ pub line_long : (bytes : List ℕ) → 16384 < length bytes → line_of bytes �
 unfolding line_of
 line_long bytes h = grind (arith, nat_tests)
 
--- the parts before the last one, where there is another part after
+-- where another part follows a first one, the parts before the last are the first one and those of the others
 parts_before : (x : List ℕ) (parts : List (List ℕ)) (y : List ℕ) (more : List (List ℕ)) → parts ≡ y ∷ more →
     all_but_last (x ∷ parts) ≡ x ∷ all_but_last parts
 parts_before x [] y more h = cc

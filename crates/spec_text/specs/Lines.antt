@@ -5,11 +5,11 @@ use Rattle.std.specs.Str.Lines.{lines, strip_carriage_return}
 use Rattle.spec_text.specs.declared.line.Line.{Line}
 use Rattle.spec_text.specs.declared.line.Line.TheVariants.{Text, Long}
 
--- the most bytes of a line that is kept
+-- the number 16,384: the most bytes of a line that is kept
 abbrev pub line_limit : ℕ
 line_limit = 16384
 
--- the most bytes of an input whose lines are read, 2 ^ 26
+-- the number 67,108,864, which is 2 ^ 26: the most bytes of an input whose lines are read
 abbrev pub input_limit : ℕ
 input_limit = 67108864
 
@@ -17,8 +17,9 @@ input_limit = 67108864
 unfoldable pub line_of : List ℕ → Line (List ℕ)
 line_of bytes = if nat_lt line_limit (length bytes) then Long (length bytes) else Text bytes
 
--- A line ends at a line feed, and loses one carriage return before it. What follows the last line feed is a
--- line, unless it is empty; it keeps a carriage return at its end.
+-- The lines of an input, in order; of a line of more than 16,384 bytes its length alone. A line ends at a line feed,
+-- and loses one carriage return before it. What follows the last line feed, or all bytes where there is none, is a
+-- line too, unless it is empty; it keeps a carriage return at its end.
 unfoldable pub lines_of : List ℕ → List (Line (List ℕ))
 lines_of input = map line_of (lines input)
 
@@ -28,7 +29,8 @@ all_but_last [] = []
 all_but_last (x ∷ []) = []
 all_but_last (x ∷ y ∷ more) = x ∷ all_but_last (y ∷ more)
 
--- the lines that a line feed ends, each without one carriage return before it
+-- the lines of an input that a line feed ends, in order, each without one carriage return before it; of a line of more
+-- than 16,384 bytes its length alone
 unfoldable pub ended_lines_of : List ℕ → List (Line (List ℕ))
 ended_lines_of input =
     map (λ line. line_of (strip_carriage_return line)) (all_but_last (slice_split (λ b. b == 10) input))

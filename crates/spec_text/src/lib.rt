@@ -16,8 +16,9 @@ ghost use Rattle.spec_text.specs.Lines.{line_of, lines_of, ended_lines_of};
 
 pub use line::Line;
 
-/// The lines of a text, from its start: what a line feed ends is a line, whatever follows it; other bytes
-/// after the last line feed are the last line.
+/// The lines of a text, from its start: the bytes before its first line feed, less one carriage return at their end,
+/// are a line, and the lines of the bytes after it follow. Bytes without a line feed are one line; no bytes have no
+/// line.
 pub fn lines_from_the_front()
     ensures none { lines_of [] ≡ [] }
     ensures ended { (line more : List ℕ) → All (λ b. b ≢ 10) line →
@@ -25,7 +26,8 @@ pub fn lines_from_the_front()
     ensures last { (line : List ℕ) → All (λ b. b ≢ 10) line → 0 < length line → lines_of line ≡ line_of line ∷ [] }
 {}
 
-/// The ended lines are the same, less what follows the last line feed.
+/// The ended lines of a text, from its start: the bytes before its first line feed, less one carriage return at their
+/// end, are the first, and those of the bytes after it follow. Bytes without a line feed have no ended line.
 pub fn ended_lines_from_the_front()
     ensures ended { (line more : List ℕ) → All (λ b. b ≢ 10) line →
         ended_lines_of (line ++ 10 ∷ more) ≡ line_of (strip_carriage_return line) ∷ ended_lines_of more }

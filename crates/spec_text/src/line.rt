@@ -1,6 +1,6 @@
 // Lines.
 
-/// A line of an input, by what keeps its bytes.
+/// A line of an input, or what stands in its place at the end; `B` is the type that keeps a line's bytes.
 #[derive(Drop)]
 pub enum Line<B> {
     /// The bytes of a line, without what ends it.
