@@ -5,7 +5,7 @@
 -- `err_not_ok`: an error does not equal a success, so anything follows.
 -- `ok_not_err`: a success does not equal an error, so anything follows.
 -- `err_same`: two errors that are equal hold equal values.
--- `told_ok`: where an operation that tells its operands when it is refused succeeds, its result was there.
+-- `told_ok`: where the answer `told` of an operation is a success, the operation gave that result.
 use Rattle.std.proofs.Common.{◌≡◌, Result, Ok, Err, Option, Some, None}
 use Rattle.spec_exact.specs.Fraction.{ℚ}
 use Rattle.spec_exact.specs.Answer.{told}

@@ -6,7 +6,7 @@ use Rattle.spec_exact.specs.Fraction.{ℚ}
 abbrev pub number_limit : ℕ
 number_limit = 170141183460469231731687303715884105727
 
--- the numerator's size and the denominator are at most 2 ^ 127 - 1
+-- the absolute value of q's numerator and q's denominator are at most 2 ^ 127 - 1
 pub record IsNarrow (q : ℚ) : Type 0 where
   pub top : unsigned_abs q.num ≤ number_limit
   pub bottom : q.den ≤ number_limit
