@@ -51,7 +51,7 @@ module _ (m n : ℕ) (f : Matrix) (cost : ℕ → ℚ) (b : Bounds) (t : Table) 
         spread : (a v s r : ℚ) → a *ℚ (v +ℚ s *ℚ r) ≡ a *ℚ v +ℚ s *ℚ (a *ℚ r)
         spread a v s r = simp ring
 
-    -- what a move costs
+    -- a move by theta adds theta times the cost along the ray to the cost
     pub cost_moved : (theta : ℚ) →
         cost_of (moved m t way j theta) ≡ cost_of t.value +ℚ theta *ℚ sum_below n (λ k. cost k *ℚ ray m t way j k)
     cost_moved theta =
@@ -152,7 +152,7 @@ module _ (m n : ℕ) (f : Matrix) (cost : ℕ → ℚ) (b : Bounds) (t : Table) 
         nothing : (d : ℚ) → 0ℚ -ℚ d *ℚ 0ℚ ≡ 0ℚ
         nothing d = simp ring
 
-    -- the statuses afterwards
+    -- after the pivot column j is basic
     pub status_j : next.status j ≡ Basic
     status_j = set_at (status_set t.status (t.basic p) to) j Basic
 

@@ -44,13 +44,13 @@ module _ (m n : ℕ) (f : Matrix) (cost : ℕ → ℚ) (b : Bounds) where
           subst (IsTableau m n f cost b) (sym s.1)
           (flip_kept m n f cost b t g l.way l.column s.0.enters l.theta l.to s.0.to_nonbasic s.0.lands)
 
-  -- a pivot by nothing
+  -- from t to u leads a pivot by Bland's rule in which the entering column moves by 0
   record Still (l : Label) (t u : Table) : Type 0 where
     rule : Pivots m n b t l.way l.column l.position l.theta l.to
     result : u ≡ after_pivot m t l.way l.column l.position l.theta l.to
     none : l.theta ≡ 0ℚ
 
-  -- a step is a pivot by nothing, or the cost falls
+  -- a step from a tableau is a pivot in which the entering column moves by 0, or the cost falls
   still_or_less : (l : Label) (t u : Table) → IsTableau m n f cost b t → IsStep m n b l t u →
       Still l t u ⊎ (cost_at u <ℚ cost_at t)
   unfolding cost_at
@@ -138,7 +138,7 @@ module _ (m n : ℕ) (f : Matrix) (cost : ℕ → ℚ) (b : Bounds) where
       left : ℕ → ℕ
       left i = (t i).basic (l i).position
 
-      -- what a step does to the statuses
+      -- the column that enters in a step is basic after it
       status_entered : (i : ℕ) → i < len → (t (suc i)).status (col i) ≡ Basic
       unfolding col
       status_entered i h =
@@ -172,7 +172,7 @@ module _ (m n : ℕ) (f : Matrix) (cost : ℕ → ℚ) (b : Bounds) where
           go Up c e = subst (CanMove Up) e c
           go Down c e = subst (CanMove Down) e c
 
-      -- between two moments at which it is basic once, a column leaves or enters
+      -- a column that is basic before step i, and is not d steps later, leaves in some step of the run
       leaves : (k i d : ℕ) → i + d ≤ len → (t i).status k ≡ Basic → ¬ ((t (i + d)).status k ≡ Basic) →
           (a : ℕ) × (a < len) × (left a ≡ k)
       leaves k i zero h p q =
@@ -202,7 +202,7 @@ module _ (m n : ℕ) (f : Matrix) (cost : ℕ → ℚ) (b : Bounds) where
           (λ y. absurd (status_gone (i + d) (omega arith) (subst (λ k. (t (suc (i + d))).status k ≡ Basic) y after)))
           (λ y. absurd (s (sym (status_same (i + d) (omega arith) k z y) ∙ after)))))
 
-      -- the same, from one step to another, past the end and from the start again if need be
+      -- a column that is basic at one place of a run that ends as it began, and not at another, leaves in some step
       leaves_to : (k i j : ℕ) → k < n → i ≤ len → j ≤ len → (t i).status k ≡ Basic → ¬ ((t j).status k ≡ Basic) →
           (a : ℕ) × (a < len) × (left a ≡ k)
       leaves_to k i j kn h g p q =
@@ -229,7 +229,7 @@ module _ (m n : ℕ) (f : Matrix) (cost : ℕ → ℚ) (b : Bounds) where
           enters k i (j - i) (omega arith) p (subst (λ a. (t a).status k ≡ Basic) (sym e) q))
           (cases_lt j i)
 
-      -- the step at which the greatest column enters
+      -- one of the first c steps has the greatest entering column of them all
       greatest : (c : ℕ) → 0 < c → c ≤ len → (i : ℕ) × (i < c) × ((a : ℕ) → a < c → col a ≤ col i)
       greatest zero h g = absurd (let z : ⊥ = omega arith in z)
       greatest (suc zero) h g = (

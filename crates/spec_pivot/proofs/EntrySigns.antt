@@ -3,10 +3,13 @@
 -- `size_below`: an entry that is below 0 along the leaving column's way has the negative of that as its magnitude.
 -- `helps_nonzero`: the entry of a column that can help the leaving one is not 0.
 -- `helps_nonbasic`: a column that can help the leaving one is not basic.
--- `ratio_is`: the magnitude of the reduced cost over that of the entry is the ratio of a column that can help.
+-- `ratio_is`: the magnitude of the reduced cost over that of the entry is the ratio of a column that can help, where
+--   the reduced cost suits its status.
 -- `ratio_least`: a ratio of magnitudes is at least 0, where the entry is not 0.
--- `by_ratio`: the reduced cost of a column that can help is the negative of its ratio times its entry.
--- `suits_after`: a reduced cost keeps its sign when it changes by r times its entry, with r from 0 to its ratio.
+-- `by_ratio`: a reduced cost that suits the status of a column that can help is the negative of its ratio times its
+--   entry.
+-- `suits_after`: a reduced cost keeps its sign when it changes by r times its entry, with r at least 0, and at most its
+--   ratio if the column can help.
 use Rattle.std.proofs.Common.{◌≡◌, sym, ap, ap₂, ◌∙◌, subst, subst₂}
 use Rattle.spec_exact.specs.Fraction.{ℚ, ◌+ℚ◌, ◌*ℚ◌, neg_ℚ, 0ℚ, ◌≤ℚ◌, ◌<ℚ◌, abs_ℚ, inverse}
 use Rattle.spec_exact.proofs.Field.{+ℚ_zero, *ℚ_assoc, *ℚ_comm, *ℚ_one, *ℚ_zero, *ℚ_inverse}

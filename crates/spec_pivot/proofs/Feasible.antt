@@ -86,7 +86,8 @@ module _ (m n : ℕ) (f : Matrix) (cost : ℕ → ℚ) (b : Bounds) (t : Table)
         e.least k h (record { not_fixed = free; helps = a }),
       )))))
 
--- a flip gives one column another status, and leaves all reduced costs
+-- after a flip of column j the tableau is dual feasible, where the reduced cost of j suits its new status and those of
+-- the other columns suited theirs
 pub flip_suits : (m n : ℕ) (b : Bounds) (t : Table) (way : Way) (j : ℕ) (theta : ℚ) (to : Status) →
     Suits to (t.reduced j)
     → ((k : ℕ) → k < n → k ≢ j → ¬ (IsFixed b k) → Suits (t.status k) (t.reduced k)) →

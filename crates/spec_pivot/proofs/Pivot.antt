@@ -7,12 +7,14 @@
 -- `Spans_refl`: each row is a combination of the rows themselves.
 -- `Spans_trans`: combinations of rows that are combinations of third rows are combinations of the third rows.
 -- `pivoted_at`: after a pivot the row of the pivot is the old one divided by the pivot entry.
--- `pivoted_off`: after a pivot another row is the old one less its entry times the row of the pivot.
+-- `pivoted_off`: after a pivot another row is the old one less its entry in the entering column times the new row of
+--   the pivot.
 -- `forth`: each row after a pivot is a combination of the rows before it.
 -- `back`: each row before a pivot is a combination of the rows after it, where the pivot entry is not 0.
 -- `pivot_row_zero`: where the row of the pivot has 0 in a column, it still has after the pivot.
 -- `kept`: where the row of the pivot has 0 in a column, the pivot changes no row in that column.
--- `new_unit`: after a pivot the entering column is 1 in the row of the pivot and 0 in all other rows.
+-- `new_unit`: after a pivot on an entry other than 0 the entering column is 1 in the row of the pivot and 0 in all
+--   other rows.
 -- `entered_at`: after a pivot the entering column is basic at the position of the pivot.
 -- `entered_off`: after a pivot each other position has the basic column that it had.
 -- `units`: a pivot on an entry other than 0 leaves the basic columns unit columns.

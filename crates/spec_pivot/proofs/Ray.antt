@@ -20,7 +20,7 @@ delta_sym i r =
 
 module _ (m : ℕ) (t : Table) (units : IsUnit m t.entry t.basic) (way : Way)
     (j : ℕ) (outside : (i : ℕ) → i < m → ¬ (t.basic i ≡ j)) where
-  -- the part of the basic columns
+  -- the entry in column j of the row in which column k is basic; 0 where it is not basic
   part : ℕ → ℚ
   part k = sum_below m (λ i. delta (t.basic i) k *ℚ t.entry i j)
 

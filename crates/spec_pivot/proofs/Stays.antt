@@ -104,7 +104,7 @@ room_kept b k v r theta f i h = by (lt_ℚ 0ℚ r) (lt_ℚ r 0ℚ) refl refl h
       upper = upper_more (b.upper k) v (v +ℚ theta *ℚ r) (falls v theta r f (le_if_not 0ℚ r p)) i.upper;
     }
 
--- the entering column moves between its own bounds
+-- a column that moves off the bound at which it stands, by at most its range, stays within its bounds
 own_kept : (l u : Option ℚ) (v theta : ℚ) (way : Way) (s : Status) → CanMove way s → Stands s l u v → 0ℚ ≤ℚ theta
     → ((x y : ℚ) → l ≡ Some x → u ≡ Some y → theta ≤ℚ (y -ℚ x))
     → IsInside l u v → IsInside l u (v +ℚ theta *ℚ sign way)

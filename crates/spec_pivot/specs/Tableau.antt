@@ -3,20 +3,21 @@ use Rattle.std.specs.Prelude.{◌≡◌, ℕ, ◌<◌, cond, nat_eq}
 use Rattle.spec_exact.specs.Fraction.{ℚ, ◌-ℚ◌, ◌*ℚ◌, 0ℚ, 1ℚ, inverse}
 use Rattle.spec_exact.specs.Sums.{sum_below}
 
--- the entry in a row and a column
+-- rows of fractions, as a function of a row and a column
 abbrev pub Matrix : Type 0
 Matrix = ℕ → ℕ → ℚ
 
--- row p, divided by its entry in column j
+-- row p divided by its entry in column j, as a function of the column; 0 in each column where that entry is 0
 abbrev pub pivot_row : Matrix → ℕ → ℕ → ℕ → ℚ
 pivot_row t p j k = t p k *ℚ inverse (t p j)
 
--- the rows after a pivot in row p and column j: each other row loses the multiple of row p that makes its entry in
--- column j 0
+-- the rows after a pivot in row p and column j, where the entry is not 0: row p is divided by it, and each other row
+-- loses the multiple of row p that makes its entry in column j 0
 abbrev pub pivoted : Matrix → ℕ → ℕ → Matrix
 pivoted t p j i k = cond (nat_eq i p) (pivot_row t p j k) (t i k -ℚ t i j *ℚ pivot_row t p j k)
 
--- the basic columns after a pivot: column j is basic at position p
+-- the basic columns by position after a pivot: column j at position p, and at each other position the one that was
+-- there
 abbrev pub entered : (ℕ → ℕ) → ℕ → ℕ → ℕ → ℕ
 entered basic p j i = cond (nat_eq i p) j (basic i)
 

@@ -3,7 +3,7 @@
 //!
 //! | Item | What it is | Where |
 //! |---|---|---|
-//! | `Suits`, `IsDualFeasible` | the sign of a reduced cost that belongs to a status; each column has it | specs/Dual |
+//! | `Suits`, `IsDualFeasible` | the sign that a reduced cost has; each has it in columns not fixed | specs/Dual |
 //! | `IsPast`, `Leaves` | a value is past a bound; the basic column that leaves to it | specs/Dual |
 //! | `Helps`, `IsCandidate`, `ratio`, `IsCheapest` | which columns may enter; the ratio test | specs/Dual |
 //! | `shift`, `after_dual` | how far the entering column moves; the tableau after the step | specs/Dual |
@@ -43,8 +43,9 @@ pub fn dual_steps_keep_tableaus()
         IsTableau m n f cost b (after_flip m t way j theta to) }
 {}
 
-/// Where the candidate with the least ratio enters, each reduced cost keeps the sign that belongs to its status. A flip
-/// gives one column another status (Chvátal, Linear Programming, chapter 10).
+/// Of columns that are not fixed: where the candidate with the least ratio enters, each reduced cost keeps the sign
+/// that belongs to its status. After a flip of a column all have their signs, if those of the other columns had and its
+/// own suits the column's new status (Chvátal, Linear Programming, chapter 10).
 pub fn dual_ratio_test()
     ensures pivot { (m n : ℕ) (f : Matrix) (cost : ℕ → ℚ) (b : Bounds) (t : Table)
         (way : Way) (p j : ℕ) (c : ℚ) →
@@ -56,8 +57,9 @@ pub fn dual_ratio_test()
         IsDualFeasible n b (after_flip m t way j theta to) }
 {}
 
-/// Where a row makes more than 0 with some bounds, no values solve the rows within the bounds (Farkas' lemma). The
-/// leaving column's row does so, with the bounds at which it stops, where no column may enter.
+/// Where a combination of the rows is above 0 at all values within the bounds, no values solve the rows within the
+/// bounds (Farkas' lemma). Where a column has to leave and no column may enter, the leaving column's row or its
+/// negative is such a combination, with the bounds at which it stops.
 pub fn stuck_rows_refute()
     ensures row { (m n : ℕ) (f : Matrix) (cost : ℕ → ℚ) (b : Bounds) (t : Table)
         (way : Way) (p : ℕ) (c : ℚ) →
@@ -67,9 +69,9 @@ pub fn stuck_rows_refute()
         (x : ℕ → ℚ) → ¬ (IsSolution m n f b x) }
 {}
 
-/// Where the reduced costs have their signs, no column is eligible for the primal method, and no solution costs less
-/// (Chvátal, Linear Programming, chapters 5 and 8). Values and reduced costs are complementary then. And where no basic
-/// value is outside its bounds, no value is.
+/// Where a tableau's reduced costs have their signs in columns that are not fixed, no column may enter by the primal
+/// method. Values and reduced costs are complementary, and no solution costs less than the values (Chvátal, Linear
+/// Programming, chapters 5 and 8). Where no bounds clash and each basic value is within its bounds, each value is.
 pub fn dual_ends_are_optimal()
     ensures within { (m n : ℕ) (f : Matrix) (cost : ℕ → ℚ) (b : Bounds) (t : Table) →
         IsTableau m n f cost b t → IsOrdered n b →

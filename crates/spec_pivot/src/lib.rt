@@ -44,8 +44,8 @@ pub use dual::{
 };
 pub use status::{Status, Way};
 
-/// A pivot keeps the span of the rows. It makes the entering column a unit column, and leaves the basic columns that
-/// stay unit columns (Chvátal, Linear Programming, chapters 2 and 8).
+/// A pivot on an entry that is not 0 keeps the span of the rows. It makes the entering column a unit column, and leaves
+/// the basic columns that stay unit columns (Chvátal, Linear Programming, chapters 2 and 8).
 pub fn pivots_keep_rows()
     ensures forth { (m : ℕ) (t : Matrix) (p j : ℕ) →
         p < m → ¬ (t p j ≡ 0ℚ) → Spans m (pivoted t p j) t }
@@ -55,8 +55,8 @@ pub fn pivots_keep_rows()
         p < m → ¬ (t p j ≡ 0ℚ) → IsUnit m t basic → IsUnit m (pivoted t p j) (entered basic p j) }
 {}
 
-/// The statuses fix the tableau of given rows: its values, its reduced costs and its rows
-/// (Chvátal, Linear Programming, chapters 2 and 8).
+/// Two tableaus of the same rows, costs and bounds with the same statuses have the same values, reduced costs, and rows
+/// by their basic columns (Chvátal, Linear Programming, chapters 2 and 8).
 pub fn one_basis_one_tableau()
     ensures { (m n : ℕ) (f : Matrix) (cost : ℕ → ℚ) (b : Bounds) (t u : Table) →
         IsTableau m n f cost b t → IsTableau m n f cost b u → SameStatuses n t u → SameTableau m n t u }
@@ -69,7 +69,7 @@ pub fn steps_keep_tableaus()
         IsTableau m n f cost b t → IsStep m n b l t u → IsTableau m n f cost b u }
 {}
 
-/// A move for which there is room leaves every value within its bounds, after a pivot and after a flip
+/// Where every value is within its bounds, each still is after a pivot or a flip by a move for which there is room
 /// (Chvátal, Linear Programming, chapter 8).
 pub fn steps_stay_within()
     ensures pivot { (m n : ℕ) (f : Matrix) (cost : ℕ → ℚ) (b : Bounds) (t : Table)
@@ -82,8 +82,9 @@ pub fn steps_stay_within()
         IsWithin n b (after_flip m t way j theta to) }
 {}
 
-/// Where the ratio test finds nothing, nothing stops the entering column. Where it finds a best, there is room for a
-/// move by that, and no position's room beats it (Chvátal, Linear Programming, chapter 8).
+/// In a tableau with every value within its bounds: where the ratio test finds nothing, nothing stops the entering
+/// column. Where it finds a best, there is room for a move by that, and no position's room beats it (Chvátal, Linear
+/// Programming, chapter 8).
 pub fn ratio_test()
     ensures none { (m n : ℕ) (f : Matrix) (cost : ℕ → ℚ) (b : Bounds) (t : Table)
         (way : Way) (j : ℕ) →
@@ -98,8 +99,8 @@ pub fn ratio_test()
         (i : ℕ) → i < m → (q : ℚ) → room_at m b t way j i ≡ Some q → NoWorse x q (t.basic i) }
 {}
 
-/// The best of the ratio test is a step by the rule: a pivot at its position, or a flip where it has none
-/// (Chvátal, Linear Programming, chapter 8).
+/// In a tableau with every value within its bounds, the best of the ratio test is a step by the rule. It is a pivot at
+/// its position, or a flip where it has none (Chvátal, Linear Programming, chapter 8).
 pub fn best_is_a_step()
     ensures pivot { (m n : ℕ) (f : Matrix) (cost : ℕ → ℚ) (b : Bounds) (t : Table)
         (way : Way) (j : ℕ) (x : Best) (p : ℕ) →
