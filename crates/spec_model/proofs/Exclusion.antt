@@ -24,7 +24,7 @@ one_optimum m v w p q =
     (subst (λ a. ¬ (IsBetter m.sense a w)) p.point.2 (q.best p.point.0 p.point.1))
     (subst (λ a. ¬ (IsBetter m.sense a v)) q.point.2 (p.best q.point.0 q.point.1))
 
--- a whole number below v
+-- a whole number that is at most v
 below : (v : ℚ) → whole (neg_ℤ (pos (suc (floor (neg_ℚ v))))) ≤ℚ v
 below v =
     subst₂ ◌≤ℚ◌ (neg-whole (pos (suc (floor (neg_ℚ v)))))

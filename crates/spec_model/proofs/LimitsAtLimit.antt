@@ -1,7 +1,7 @@
 -- A limit of a row at a limit of numbers: the exact one, or its operation is refused.
 --
 -- `limit_ok`: a limit of a row whose operation is not refused is the exact limit.
--- `limit_all`: without a limit of numbers each limit of a row is there, and exact.
+-- `limit_all`: without a limit of numbers no limit of a row is refused: it is the exact one, or absent.
 use Rattle.std.proofs.Common.{◌≡◌, ℕ, Option, Some, None, Ok, Err, refl, sym, ap, ◌∙◌}
 use Rattle.spec_exact.specs.Fraction.{ℚ, ◌+ℚ◌, ◌-ℚ◌}
 use Rattle.spec_exact.specs.Limit.{add, sub}

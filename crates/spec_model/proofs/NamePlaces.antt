@@ -22,9 +22,11 @@ use Rattle.spec_text.proofs.WordLemmas.{same-refl, same_true}
 use Rattle.spec_model.specs.Model.{Model, Name, ExactRow, ExactColumn, no_row, no_column, width, height, row, column}
 use Rattle.spec_model.specs.Kept.{IsModel, row_place, column_place}
 
+-- the name of column j of a model; empty where it has fewer columns
 abbrev pub column_name : Model → ℕ → Name
 column_name m j = (column m j).name
 
+-- the name of row i of a model; empty where it has fewer rows
 abbrev pub row_name : Model → ℕ → Name
 row_name m i = (row m i).name
 
@@ -37,12 +39,14 @@ not_same a b h = by (same a b) refl
 
 -- things with names of which no two are the same
 module _ {A : Type 0} (name : A → Name) (xs : List A) (d : A) (once : AllPairs (λ x y. x ≢ y) (map name xs)) where
+  -- of things with names of which no two are the same, two at different places have different names
   differ : (i k : ℕ) → i < k → k < length xs → same (name (get_or xs i d)) (name (get_or xs k d)) ≡ false
   differ i k p q =
       not_same (name (get_or xs i d)) (name (get_or xs k d))
       (subst₂ ◌≢◌ (get_or-map name xs i d [] (omega arith)) (get_or-map name xs k d [] q)
       (once i k [] p (omega (arith, length-map xs name))))
 
+  -- of things with names of which no two are the same, the first one with the name of thing i is thing i
   place_at : (i : ℕ) → i < length xs → position (λ x. same (name x) (name (get_or xs i d))) xs ≡ Some i
   place_at i p =
       ap (λ n. cond (ltb n (length xs)) (Some n) None)

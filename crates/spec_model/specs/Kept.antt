@@ -9,23 +9,23 @@ use Rattle.spec_model.specs.declared.parts.Kind.{Kind}
 use Rattle.spec_model.specs.declared.parts.SizeLimits.{SizeLimits}
 use Rattle.spec_model.specs.Model.{Model, Name, ExactRow, ExactColumn, is_free}
 
--- the most rows of a model in a session
+-- the number 256: the most rows of a usual model
 abbrev pub row_limit : ℕ
 row_limit = 256
 
--- the most columns of a model in a session
+-- the number 512: the most columns of a usual model
 abbrev pub column_limit : ℕ
 column_limit = 512
 
--- the limits of a model in a session, and of the forms and tableaus that are made of it
+-- the limits of a usual model, 256 rows and 512 columns, as sessions, forms and tableaus have them
 abbrev pub usual_limits : SizeLimits
 usual_limits = record { rows = row_limit; columns = column_limit }
 
--- the most rows and columns of any model
+-- the limits of each model that is kept: 65,536 rows and 131,072 columns
 abbrev pub large_limits : SizeLimits
 large_limits = record { rows = 65536; columns = 131072 }
 
--- each limit of the first is at most that of the second
+-- the first size limits allow at most as many rows, and at most as many columns, as the second ones
 pub record AreAtMost (few many : SizeLimits) : Type 0 where
   pub rows : few.rows ≤ many.rows
   pub columns : few.columns ≤ many.columns
@@ -35,15 +35,15 @@ pub record IsWithin (limits : SizeLimits) (m : Model) : Type 0 where
   pub few_rows : length m.rows ≤ limits.rows
   pub few_columns : length m.columns ≤ limits.columns
 
--- a model has no more rows and columns than a session may hold
+-- a model has at most 256 rows and 512 columns, as many as a session may hold
 abbrev pub IsUsual : Model → Type 0
 IsUsual m = IsWithin usual_limits m
 
--- a byte that is printed and no blank
+-- whether a byte is a printed ASCII character and no blank: it is from 33 to 126
 abbrev pub is_printable : ℕ → Bool
 is_printable b = nat_le 33 b && nat_le b 126
 
--- a name of a column: 1 to 64 printable bytes
+-- whether bytes may name a column: they are 1 to 64 printable ones
 unfoldable pub is_name : Name → Bool
 is_name bytes = nat_lt 0 (length bytes) && nat_le (length bytes) 64 && list_all is_printable bytes
 
@@ -52,7 +52,7 @@ is_name bytes = nat_lt 0 (length bytes) && nat_le (length bytes) 64 && list_all 
 unfoldable pub is_row_name : Name → Bool
 is_row_name bytes = is_name bytes && not (same bytes (codes "'MARKER'"))
 
--- a name of a model: at most 64 printable bytes, or none
+-- whether bytes may name a model: they are at most 64 printable ones, or none
 unfoldable pub is_model_name : Name → Bool
 is_model_name bytes = nat_le (length bytes) 64 && list_all is_printable bytes
 
@@ -64,15 +64,15 @@ row_names m = map (λ r. r.name) m.rows
 abbrev pub column_names : Model → List Name
 column_names m = map (λ c. c.name) m.columns
 
--- the number of the first row with a name
+-- the number of the first row with a name; none where no row has it
 unfoldable pub row_place : Model → Name → Option ℕ
 row_place m name = position (λ r. same r.name name) m.rows
 
--- the number of the first column with a name
+-- the number of the first column with a name; none where no column has it
 unfoldable pub column_place : Model → Name → Option ℕ
 column_place m name = position (λ c. same c.name name) m.columns
 
--- the entries are of the first n rows, in the order of their rows, and none is 0
+-- the entries are of the first n rows, at most one of each row, in the order of their rows, and none is 0
 pub record AreEntries (n : ℕ) (entries : List (ℕ × ℚ)) : Type 0 where
   pub inside : All (λ e. e.0 < n) entries
   pub ascending : AllPairs (λ d e. d.0 < e.0) entries
@@ -82,30 +82,33 @@ pub record AreEntries (n : ℕ) (entries : List (ℕ × ℚ)) : Type 0 where
 abbrev pub IsBound : Option ℚ → Type 0
 IsBound bound = IfSome bound (λ b. abs_ℚ b <ℚ whole (pos (10 ^ 20)))
 
--- a column of a kept model of this height: a valid name, bounds in range and entries in order
+-- What a column of a kept model with so many rows has, but for the bits of its numbers: its name is valid, its bounds
+-- are less than 10 ^ 20 from 0, and its entries are of these rows, at most one of each, in their order, and not 0.
 pub record IsKeptColumn (height : ℕ) (c : ExactColumn) : Type 0 where
   pub name : IsTrue (is_name c.name)
   pub lower : IsBound c.lower
   pub upper : IsBound c.upper
   pub entries : AreEntries height c.entries
 
--- a free row has no range
+-- if there is a range, the row is not free
 abbrev pub FitsKind : Kind → Option ℚ → Type 0
 FitsKind kind range = IfSome range (λ r. is_free kind ≡ false)
 
--- the right side and the range have at most 127 bits
+-- the row's right side, and its range if it has one, have at most 127 bits in numerator and denominator
 pub record IsNarrowRow (r : ExactRow) : Type 0 where
   pub rhs : IsNarrow r.rhs
   pub range : IfSome r.range IsNarrow
 
--- the cost, the bounds and the entries have at most 127 bits
+-- the column's cost, bounds and coefficients have at most 127 bits in numerator and denominator
 pub record IsNarrowColumn (c : ExactColumn) : Type 0 where
   pub cost : IsNarrow c.cost
   pub lower : IfSome c.lower IsNarrow
   pub upper : IfSome c.upper IsNarrow
   pub entries : All (λ e. IsNarrow e.1) c.entries
 
--- a model that is kept within limits of size
+-- The model may be kept, and is within these limits of size. Its names are valid: no two columns have one name, nor two
+-- of the rows and the objective. Free rows have no range, each column is as `IsKeptColumn` says, and its numbers have
+-- at most 127 bits.
 pub record IsModelWithin (limits : SizeLimits) (m : Model) : Type 0 where
   pub few : IsWithin limits m
   pub name : IsTrue (is_model_name m.name)
@@ -119,7 +122,7 @@ pub record IsModelWithin (limits : SizeLimits) (m : Model) : Type 0 where
   pub narrow_rows : All IsNarrowRow m.rows
   pub narrow_columns : All IsNarrowColumn m.columns
 
--- a model that is kept
+-- the model may be kept, and is within the large limits
 abbrev pub IsModel : Model → Type 0
 IsModel m = IsModelWithin large_limits m
 

@@ -30,7 +30,8 @@ ghost use Rattle.spec_model.specs.Truth.{IsOptimal, IsInfeasible, IsUnbounded};
 
 pub use parts::{Column, Kind, Row, RowLimit, Sense, SizeLimits};
 
-/// No two of the truths hold together, and there is one optimal value.
+/// No model has two of these: an optimal value, no feasible point, and no limit to its values. It has at most one
+/// optimal value.
 pub fn truths_exclude_each_other()
     ensures one_value { (m : Model) (v w : ℚ) → IsOptimal m v → IsOptimal m w → v ≡ w }
     ensures optimal_infeasible { (m : Model) (v : ℚ) → IsOptimal m v → ¬ (IsInfeasible m) }
@@ -38,7 +39,8 @@ pub fn truths_exclude_each_other()
     ensures infeasible_unbounded { (m : Model) → IsInfeasible m → ¬ (IsUnbounded m) }
 {}
 
-/// A limit of a row is the exact one, or its operation is refused; without a limit of numbers none is.
+/// A limit of a row at a limit on numbers is the exact one, or its operation is refused; without a limit on numbers
+/// none is refused.
 pub fn row_limits_are_exact_or_refused()
     ensures exact { (limit : Option ℕ) (o : RowLimit ℚ) (l : Option ℚ) → limit_run limit o ≡ Ok l → l ≡ limit_of o }
     ensures unlimited { (o : RowLimit ℚ) → limit_run None o ≡ Ok (limit_of o) }

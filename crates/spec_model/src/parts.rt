@@ -8,7 +8,7 @@ pub enum Sense {
 }
 
 /// A row's sum is at most (`L`), at least (`G`) or equal to (`E`) its right side, or it has no limits (`N`): the row is
-/// free.
+/// free. A range gives an `L`, `G` or `E` row both limits.
 #[derive(Clone, Copy)]
 pub enum Kind {
     L,
@@ -17,14 +17,15 @@ pub enum Kind {
     N,
 }
 
-/// A row.
+/// A row of a model: a sum of coefficients times columns, which its kind, right side and range limit.
 #[derive(Drop)]
 pub struct Row<N, F> {
     pub name: N,
     pub kind: Kind,
     /// The right side.
     pub rhs: F,
-    /// How far the row's sum may be from the right side, if it may. A free row has none.
+    /// If there is one: its absolute value is how far at most the sum is from the right side. Free rows that are kept
+    /// have none.
     pub range: Option<F>,
 }
 
@@ -46,7 +47,9 @@ pub enum RowLimit<F> {
     Absent,
     /// This number, which takes no operation.
     Given(F),
+    /// The first number plus the second one.
     Sum(F, F),
+    /// The first number less the second one.
     Difference(F, F),
 }
 
