@@ -3,7 +3,8 @@
 -- `none_at`: where no entry is of row k, the coefficient in row k is 0.
 -- `entry_of-with_entry`: setting the entry of row i to v makes the coefficient in row i v, and leaves those in all
 --   other rows.
--- `entry_of-without_entry`: after row i is removed, row k has the coefficient of the row that was there before.
+-- `entry_of-without_entry`: after row i is removed, row k has the coefficient of the row that it was before: of row k
+--   before row i, and else of row k + 1.
 use Rattle.std.proofs.Common.{◌≡◌, ◌≢◌, ℕ, ◌+◌, ◌-◌, ◌<◌, ◌≤◌, Bool, true, false, not, cond, eqb, ltb, List, []}
 use Rattle.std.proofs.Common.{◌∷◌, ◌++◌, map, All, refl, sym, ap, ◌∙◌, subst, arith, ⊎_elim, eq-eqb, ne_eqb}
 use borrow.Author.Tests.{ltb-true, ltb-false, lt-ltb, eqb-true, eqb-false}

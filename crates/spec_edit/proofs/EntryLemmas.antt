@@ -5,7 +5,8 @@
 -- `entry_if-row`: the entry for row i, where there is one, is of row i.
 -- `with_entry-kept`: setting the entry of one of the first n rows keeps the entries of a column in order.
 -- `with_entry-narrow`: setting an entry to a number of 127 bits keeps entries of 127 bits within 127 bits.
--- `without_entry-kept`: entries in order are in the order of one row less when a row is removed.
+-- `without_entry-kept`: entries of the first n rows, in order, are once one of these rows is removed entries of the
+--   first n - 1, in order.
 -- `without_entry-narrow`: entries of 127 bits stay so when a row is removed.
 use Rattle.std.proofs.Common.{◌≡◌, ◌≢◌, ℕ, suc, ◌-◌, ◌<◌, ◌≤◌, Bool, true, false, not, cond}
 use Rattle.std.proofs.Common.{eqb, ltb, List, [], ◌∷◌, ◌++◌, All, refl, sym, subst, arith}

@@ -48,7 +48,7 @@ module _ (m : Model) (i : ℕ) (l : i < height m) (free : is_free (row m i).kind
   cost_is : (j : ℕ) → cost less j ≡ cost m j
   cost_is j = ap (λ (c : ExactColumn). c.cost) (column-lowered m i j)
 
-  -- the sum of a row that stays
+  -- once row i is removed, row a has the sum at z of the row that had its number before
   activity_is : (z : List ℚ) (a : ℕ) → activity less z a ≡ activity m z (skipping i a)
   activity_is z a =
       ap (λ n. sum_below n (λ j. coefficient less a j *ℚ part z j)) width_is
@@ -63,7 +63,7 @@ module _ (m : Model) (i : ℕ) (l : i < height m) (free : is_free (row m i).kind
   limits_are : (a : ℕ) → limits less a ≡ limits m (skipping i a)
   limits_are a = ap limits_of ((without_row-means m i l).rows a)
 
-  -- the sum of row a of the one is within its limits where that of the other is
+  -- where row a is within its limits once row i is removed, so is in the model row k, which is the same row
   staying : (z : List ℚ) (a k : ℕ) → skipping i a ≡ k → IsBetween (limits less a) (activity less z a) →
       IsBetween (limits m k) (activity m z k)
   staying z a k e h =

@@ -123,7 +123,7 @@ with_column-kept m c k few new kept narrow =
 
 -- ---- one row or column less
 
--- a column without row i
+-- the column c once row i is removed: without the entry of row i, and with the rows behind it numbered anew
 abbrev pub lowered : ℕ → ExactColumn → ExactColumn
 lowered i c = record c { entries = without_entry i c.entries }
 

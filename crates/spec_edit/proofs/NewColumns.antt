@@ -3,8 +3,10 @@
 -- `puts_pair`: where pairs of a name and a number give entries, the first names a row, no earlier pair names it, and
 --   the later ones give the rest.
 -- `column_of-kept`: a new column with a valid name and entries in order may be kept.
--- `new_column-ok`: where a new column is no fault, its name is free, there is room, and its pairs give entries.
--- `new_column-kept`: a new column with numbers of 127 bits leaves a model one that sessions may hold.
+-- `new_column-ok`: where a new column is not refused, its name is valid and free, there is room, and its pairs give
+--   entries.
+-- `new_column-kept`: a new column with numbers of 127 bits that is not refused leaves a model one that sessions may
+--   hold.
 use Rattle.std.proofs.Common.{◌≡◌, ℕ, ◌<◌, true, false, not, leb, Some, Ok}
 use Rattle.std.proofs.Common.{List, [], ◌∷◌, ◌++◌, All, IsTrue, subst, arith}
 use borrow.Author.Tests.{leb-false}
@@ -25,7 +27,8 @@ use Rattle.spec_edit.proofs.Keeping.{with_column-kept, with_entry-kept, with_ent
 
 -- ---- a pair after the other
 
--- the first pair names a row, is given for the first time, and the others are put to it
+-- the pair p names a row, no pair before it has its name, and once its number is put in that row the pairs after it
+-- give the entries `out`
 pub record PutsPair (m : Model) (before : Pairs) (p : Name × ℚ) (pairs : Pairs) (es out : List (ℕ × ℚ)) : Type 0 where
   pub place : ℕ
   pub names : row_place m p.0 ≡ Some place
@@ -79,7 +82,7 @@ column_of-narrow : (name : Name) (cost : ℚ) (es : List (ℕ × ℚ)) → IsNar
     IsNarrowColumn (column_of name cost es)
 column_of-narrow name cost es c k = record { cost = c; lower = zero_narrow; upper = tt; entries = k }
 
--- what was found on the way to the model with a new column
+-- n is the model m with a new column: its name is valid and free, there is room for it, and its pairs give its entries
 pub record NewColumn (m n : Model) (name : Name) (cost : ℚ) (pairs : Pairs) : Type 0 where
   pub named : is_name name ≡ true
   pub free : is_column_taken m name ≡ false

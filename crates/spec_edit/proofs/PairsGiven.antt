@@ -43,7 +43,7 @@ given_last name before p h =
     list_any-append (λ (p : Name × ℚ). same p.0 name) before (p ∷ [])
     ∙ or_right (is_given name before) (is_given name (p ∷ [])) (or_left (same p.0 name) false h)
 
--- what was given before is not given once more
+-- where further pairs give entries, none of them has a name that a pair before them has
 not_again : (m : Model) (name : Name) (d : ℚ) (before pairs : Pairs) (es out : List (ℕ × ℚ)) →
     is_given name before ≡ true → entries_of m before pairs es ≡ Ok out → given_or d name pairs ≡ d
 not_again m name d before [] es out g h = refl

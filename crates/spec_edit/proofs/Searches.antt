@@ -2,8 +2,8 @@
 --
 -- `step_ok`: where a step and the next one succeed together, each of them succeeds.
 -- `test_ok`: where a test for a fault lets the edit succeed, the test fails.
--- `known_ok`: where a name that has to be known succeeds, it leads to that number.
--- `same_ok`: two results that are equal hold equal values.
+-- `known_ok`: where a name is known to stand for the number k, the search for it found k.
+-- `same_ok`: where two results of edits are equal, and neither is a fault, they hold equal values.
 -- `at_row`: where a change of a named row succeeds, it is the change of one of the rows by its number.
 -- `at_column`: where a change of a named column succeeds, it is the change of one of the columns by its number.
 -- `at_entry`: where a change of a named row and column succeeds, it is the change at their numbers.
@@ -103,7 +103,7 @@ right_side-ok m n name v h = by (same m.objective name) h
     by true e = inl (same_ok (with_offset m (neg_ℚ v)) n e)
     by false e = inr (at_row m n name (λ i. with_rhs m i v) e)
 
--- a range that the kind of its row may have
+-- n is the model m with this range at one of its rows, whose kind may have it
 pub record AtRange (m n : Model) (range : Option ℚ) : Type 0 where
   pub place : ℕ
   pub inside : place < height m

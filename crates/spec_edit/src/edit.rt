@@ -7,7 +7,7 @@ use thiserror::Error;
 /// An edit of a model. Rows and columns are named; new ones go last.
 #[derive(Drop)]
 pub enum Edit<N, F, P, B> {
-    /// A row without entries.
+    /// Adds a row without entries, which goes last.
     AddRow {
         name: N,
         kind: Kind,
@@ -15,7 +15,8 @@ pub enum Edit<N, F, P, B> {
         range: Option<F>,
     },
     DelRow(N),
-    /// A column that is at least 0, with a number for each of these rows.
+    /// Adds a column that is at least 0 and has no upper bound, with each of these numbers as its coefficient in the
+    /// row that goes with it. It goes last.
     AddCol {
         name: N,
         cost: F,
@@ -23,13 +24,13 @@ pub enum Edit<N, F, P, B> {
     },
     DelCol(N),
     SetCost(N, F),
-    /// The coefficient of a column in a row.
+    /// Sets the coefficient of a column in a row.
     SetCoef {
         row: N,
         column: N,
         value: F,
     },
-    /// The right side of a row; of the objective, the negative of its offset.
+    /// Sets the right side of a row; of the objective, the offset to the negative of the number.
     SetRhs(N, F),
     SetRange(N, Option<F>),
     SetBound {
@@ -49,13 +50,13 @@ pub enum Which {
 /// Why an edit is refused.
 #[derive(Debug, Drop, Error)]
 pub enum EditFault<N: Debug> {
-    /// No row or column has the name.
+    /// Where the edit names a row, no row has the name; where it names a column, no column has it.
     #[error("expected the name of a row or a column, but found {0:?}")]
     UnknownName(N),
-    /// A row, the objective or a column has the new name already.
+    /// The objective or a row has the name of a new row already, or a column has that of a new column.
     #[error("expected a new name, but {0:?} is taken")]
     Taken(N),
-    /// So many are there already.
+    /// There are as many rows or columns as a session's model may have, or more: which of both, and how many it may.
     #[error("expected room for one more of the {0:?}, but there are {1} already")]
     Limit(Which, u32),
     /// The new name is none that a row or a column may have.

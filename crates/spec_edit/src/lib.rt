@@ -29,12 +29,15 @@ ghost use Rattle.spec_edit.specs.Meaning.{IsWithPairs, adds_or_removes, KeepsNam
 
 pub use edit::{Edit, EditFault, Which};
 
-/// An edit leaves a model that sessions may hold.
+/// An edit whose numbers and bounds may be kept, of a model that sessions may hold, leaves a model that they may hold,
+/// unless the edit is refused.
 pub fn edits_keep_models()
     ensures { (m n : Model) (e : ExactEdit) → IsUsualModel m → IsKeptEdit e → edited m e ≡ Ok n → IsUsualModel n }
 {}
 
-/// Each change of a model has the meaning that edits give it, by the numbers of rows and columns.
+/// A coefficient that is set has the new value, and all others stay. Where a row or a column is removed, the others
+/// stay as they were, and those behind it have numbers that are one less. A new row goes last as it is given, and has
+/// no coefficients.
 pub fn changes_have_their_meaning()
     ensures coefficient { (m : Model) (i j : ℕ) (v : ℚ) → j < width m → IsWithCoefficient m i j v }
     ensures without_row { (m : Model) (i : ℕ) → i < height m → IsWithoutRow m i }
@@ -58,7 +61,8 @@ pub fn free_rows_have_no_range()
         is_free (row m i).kind ≡ true → edited m (edit.SetRange name None) ≡ Ok m }
 {}
 
-/// A model has the same feasible points with the same values, and so the same truths, without a free row.
+/// A model has the same feasible points with the same values when a free row is removed. So it has the same optimal
+/// value then, or is infeasible or unbounded as before.
 pub fn free_rows_change_no_truth()
     ensures points { (m : Model) (i : ℕ) → i < height m → is_free (row m i).kind ≡ true → (z : List ℚ) →
         (IsFeasible m z ↔ IsFeasible (without_row m i) z) × (value_of (without_row m i) z ≡ value_of m z) }
