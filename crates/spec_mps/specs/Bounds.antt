@@ -26,19 +26,21 @@ pub data BoundCard : Type 0 where
   SetsLower : (bound : Option ℚ) → BoundCard
   SetsBoth : (lower upper : Option ℚ) → BoundCard
 
--- what `UP` does with its value
+-- what a card `UP` with this value does: it sets the upper bound, or takes it away for plus infinity;
+-- minus infinity is a fault
 abbrev pub upper_card : BoundValue ℚ → Check BoundCard
 upper_card (Finite u) = Ok (SetsUpper (Some u))
 upper_card PlusInf = Ok (SetsUpper None)
 upper_card MinusInf = Err code.BoundKind
 
--- what `LO` does with its value
+-- what a card `LO` with this value does: it sets the lower bound, or takes it away for minus infinity;
+-- plus infinity is a fault
 abbrev pub lower_card : BoundValue ℚ → Check BoundCard
 lower_card (Finite l) = Ok (SetsLower (Some l))
 lower_card PlusInf = Err code.BoundKind
 lower_card MinusInf = Ok (SetsLower None)
 
--- what `FX` does with its value
+-- what a card `FX` with this value does: it sets both bounds to it; an infinite value is a fault
 abbrev pub both_card : BoundValue ℚ → Check BoundCard
 both_card (Finite v) = Ok (SetsBoth (Some v) (Some v))
 both_card PlusInf = Err code.BoundKind
@@ -48,7 +50,7 @@ both_card MinusInf = Err code.BoundKind
 unfoldable pub bound_in : List ℕ → Check (BoundValue ℚ)
 bound_in text = coded (bound_answer (bound_of text))
 
--- the card of a kind, with its value where it takes one
+-- what a card of this kind does, with the text of its value where it takes one; or the code of the value's fault
 unfoldable pub bound_card : BoundKind → List ℕ → Check BoundCard
 bound_card Up text = bound_in text >>= upper_card
 bound_card Lo text = bound_in text >>= lower_card
@@ -62,20 +64,22 @@ abbrev pub is_negative : Option ℚ → Bool
 is_negative None = false
 is_negative (Some u) = lt_ℚ u 0ℚ
 
--- A column with the bounds of a card. A negative upper bound takes away the lower bound, where no card has set that.
+-- A column with the bounds of a card. A negative upper bound takes away the lower bound, unless the flag says that a
+-- card has set that.
 abbrev pub bounded : Bool → BoundCard → ExactColumn → ExactColumn
 bounded lowered (SetsUpper u) c =
     if is_negative u && not lowered then record c { lower = None; upper = u } else record c { upper = u }
 bounded lowered (SetsLower l) c = record c { lower = l }
 bounded lowered (SetsBoth l u) c = record c { lower = l; upper = u }
 
--- whether a card says something of the lower bound
+-- whether a card itself sets the lower bound or takes it away: those of LO, MI, FX and FR do, one of UP or PL does not
 abbrev pub sets_lower : BoundCard → Bool
 sets_lower (SetsUpper u) = false
 sets_lower (SetsLower l) = true
 sets_lower (SetsBoth l u) = true
 
--- the state after a card for the column at a place
+-- the state after a card of BOUNDS for the column at this place: the column has the bounds that the card makes of its
+-- old ones, and is noted where the card sets its lower bound
 unfoldable pub with_bound : State → ℕ → BoundCard → State
 with_bound s place card =
     record s {
@@ -91,7 +95,7 @@ pub record BoundTexts : Type 0 where
   pub column : Name
   pub value : List ℕ
 
--- whether a card of this kind needs a value
+-- whether a card of this kind takes a value: UP, LO and FX do, FR, MI and PL do not
 abbrev pub takes_value : BoundKind → Bool
 takes_value Up = true
 takes_value Lo = true
@@ -100,7 +104,8 @@ takes_value Fr = false
 takes_value Mi = false
 takes_value Pl = false
 
--- the texts after the kind; of a kind that takes no value, field 4 is not read
+-- the set, the column and the value among these texts, by whether the kind takes a value; other counts of texts are a
+-- fault of shape
 abbrev pub bound_texts_by : Bool → List (List ℕ) → Check BoundTexts
 bound_texts_by true (column ∷ value ∷ []) = Ok (record { set = None; column = column; value = value })
 bound_texts_by true (set ∷ column ∷ value ∷ []) = Ok (record { set = Some set; column = column; value = value })
@@ -108,25 +113,27 @@ bound_texts_by false (column ∷ []) = Ok (record { set = None; column = column;
 bound_texts_by false (set ∷ column ∷ []) = Ok (record { set = Some set; column = column; value = [] })
 bound_texts_by has_value texts = Err code.CardShape
 
--- whether field n of a card is read, beside its kind in field 1
+-- whether field n of a card of this kind is read: not field 1, which has the kind, nor field 4 where it takes no value
 abbrev pub is_read : BoundKind → ℕ → Bool
 is_read kind n = not (n == 1) && (takes_value kind || not (n == 4))
 
--- the texts of a card in BOUNDS, where it has a shape of its kind
+-- the set, the column and the value on a card of BOUNDS of this kind; a fault where the card has none of its shapes
 unfoldable pub bound_texts : Style → BoundKind → Fields → Check BoundTexts
 bound_texts style kind fields =
     if has_shape (bound_shapes style kind) fields
     then bound_texts_by (takes_value kind) (texts_of (filter (λ f. is_read kind f.number) fields))
     else Err code.CardShape
 
--- the state after a card of the set that is used
+-- the state after a card of BOUNDS whose set is in use: its column has the bounds that the card gives, and its set is
+-- noted; or the code of the fault, an unknown column or a wrong value
 unfoldable pub use_bound : State → BoundKind → BoundTexts → Check State
 use_bound s kind texts = do
   place ← need (position (λ c. same c.name texts.column) s.columns) code.UnknownColumn
   card ← bound_card kind texts.value
   Ok (with_bound (record s { set = Some texts.set }) place card)
 
--- the state after a card of BOUNDS, or the code of the card's fault
+-- the state with the bounds that a card of BOUNDS gives its column, or the code of its fault; a card of another set
+-- than that of the section's first card changes nothing
 unfoldable pub bounds_card : Style → State → Fields → Check State
 bounds_card style s fields = do
   kind ← bound_kind_of (text_at 1 fields)

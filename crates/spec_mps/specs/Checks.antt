@@ -5,17 +5,17 @@ use Rattle.spec_mps.specs.declared.fault.Code.TheVariants as code
 use Rattle.spec_mps.specs.declared.number.NumFault.{NumFault}
 use Rattle.spec_mps.specs.declared.number.NumFault.TheVariants as fault
 
--- a result, or the code of a text's fault
+-- a value, or the code of what is wrong with a line of a model's text
 abbrev pub Check : Type 0 → Type 0
 Check A = Result A Code
 
 infixl 10 ◌>>=◌
--- the next check, where this one has a value
+-- the check that `next` makes of this one's value; where this one has a fault, that fault, and `next` is left out
 abbrev pub ◌>>=◌ : {A B : Type 0} → Check A → (A → Check B) → Check B
 (Ok x) >>= next = next x
 (Err code) >>= next = Err code
 
--- goes on where the test holds
+-- a check that goes on where the test holds, and else fails with this code
 abbrev pub must : Bool → Code → Check ⊤
 must true code = Ok tt
 must false code = Err code
@@ -25,12 +25,12 @@ abbrev pub need : {A : Type 0} → Option A → Code → Check A
 need None code = Err code
 need (Some x) code = Ok x
 
--- the code of the fault of a text that should be a number
+-- the code for a text that should be a number, by what is wrong with it
 abbrev pub fault_code : NumFault → Code
 fault_code fault.Shape = code.NumberShape
 fault_code fault.Wide = code.NumberWide
 
--- a number, or the code of why it is none
+-- a result of reading a number as a check: its value, or the code for the fault
 abbrev pub coded : {A : Type 0} → Result A NumFault → Check A
 coded (Ok x) = Ok x
 coded (Err fault) = Err (fault_code fault)

@@ -11,18 +11,19 @@ pub record ColumnTexts : Type 0 where
   pub column : Name
   pub pairs : Pairs
 
--- the column and the pairs among the texts of a card
+-- the column and the pairs among the texts of a card of COLUMNS, three or five;
+-- of any other count an empty name, no pairs
 abbrev pub column_of : List (List ℕ) → ColumnTexts
 column_of (column ∷ row ∷ value ∷ []) = record { column = column; pairs = (row, value) ∷ [] }
 column_of (column ∷ row ∷ value ∷ other ∷ second ∷ []) =
     record { column = column; pairs = (row, value) ∷ (other, second) ∷ [] }
 column_of texts = record { column = []; pairs = [] }
 
--- the column that a card names
+-- the name of the column on a card of COLUMNS; no bytes where the card has not three or five fields
 abbrev pub column_on : Fields → Name
 column_on card = (column_of (texts_of card)).column
 
--- the pairs on a card
+-- the pairs of a row's name and a number's text on a card of COLUMNS; none where the card has not three or five fields
 abbrev pub numbers_on : Fields → Pairs
 numbers_on card = (column_of (texts_of card)).pairs
 
@@ -31,10 +32,11 @@ abbrev pub firsts : List Name → List Name
 firsts [] = []
 firsts (name ∷ names) = name ∷ filter (λ other. not (same name other)) (firsts names)
 
--- the columns that cards name
+-- the columns that cards of COLUMNS name, each once, in the order of their first cards; a card without three or five
+-- fields names the column with an empty name
 unfoldable pub named_columns : List Fields → List Name
 named_columns cards = firsts (map column_on cards)
 
--- the pairs on the cards of a column
+-- the pairs on all cards of COLUMNS that name this column, in order
 unfoldable pub pairs_of_column : Name → List Fields → Pairs
 pairs_of_column name cards = flat_map numbers_on (filter (λ card. same (column_on card) name) cards)

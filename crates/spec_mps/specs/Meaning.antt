@@ -10,7 +10,8 @@ use Rattle.spec_mps.specs.ColumnCards.{named_columns, pairs_of_column}
 use Rattle.spec_mps.specs.NumberCards.{texts_for, used_pairs, IsTheNumber, IsTheRangeOf}
 use Rattle.spec_mps.specs.BoundCards.{bounds_of_column, lower_of, upper_of}
 
--- the model that the cards of a text describe
+-- The cards of a text, in this form, describe this model: each of its names, numbers and bounds is what the cards of
+-- its section say.
 pub record Means (style : Style) (lines : Lines) (m : Model) : Type 0 where
   pub name : m.name ≡ second_word (title_of section.Name lines)
   pub sense : IsSenseOf (sense_words (title_of section.Sense lines) (cards_in style section.Sense lines)) m.sense

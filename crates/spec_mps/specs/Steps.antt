@@ -26,20 +26,21 @@ use Rattle.spec_mps.specs.Bounds.{bounds_card}
 
 -- ---- OBJSENSE: the sense may stand once, under it or beside it
 
--- the state with the sense that a word says, where it had none
+-- the state with the sense that a word says; a fault where the word says none, or the state has one already
 unfoldable pub take_sense : State → List ℕ → Check State
 take_sense s text = do
   sense ← need (sense_of text) code.CardShape
   _ ← must (is_none s.sense) code.CardShape
   Ok (record s { sense = Some sense })
 
--- the state after a card of OBJSENSE
+-- the state with the sense that the one word of a card of OBJSENSE says; or the code of its fault, another shape, an
+-- unknown word or a second sense
 unfoldable pub sense_card : Style → State → Fields → Check State
 sense_card style s fields = shaped style section.Sense fields >>= λ texts. take_sense s (text_at 1 fields)
 
 -- ---- sections: each at most once, in their order
 
--- whether a section has begun
+-- whether a section has begun; ENDATA never has
 abbrev pub has_begun : Seen → Section → Bool
 has_begun seen section.Name = seen.name
 has_begun seen section.Sense = seen.sense
@@ -50,7 +51,7 @@ has_begun seen section.Ranges = seen.ranges
 has_begun seen section.Bounds = seen.bounds
 has_begun seen section.End = false
 
--- the sections that have begun, with one more
+-- the sections that have begun, with this one more; ENDATA adds nothing
 abbrev pub with_section : Seen → Section → Seen
 with_section seen section.Name = record seen { name = true }
 with_section seen section.Sense = record seen { sense = true }
@@ -61,7 +62,8 @@ with_section seen section.Ranges = record seen { ranges = true }
 with_section seen section.Bounds = record seen { bounds = true }
 with_section seen section.End = seen
 
--- NAME and OBJSENSE stand before ROWS, and RHS, RANGES, BOUNDS and ENDATA after COLUMNS
+-- whether a section may begin once these have begun: NAME and OBJSENSE before ROWS, COLUMNS after it, and RHS, RANGES,
+-- BOUNDS and ENDATA after COLUMNS. For ROWS it always says yes. It does not ask whether the section itself has begun.
 abbrev pub may_follow : Seen → Section → Bool
 may_follow seen section.Name = not seen.rows
 may_follow seen section.Sense = not seen.rows
@@ -72,7 +74,8 @@ may_follow seen section.Ranges = seen.columns
 may_follow seen section.Bounds = seen.columns
 may_follow seen section.End = seen.columns
 
--- as a section begins, the last column is whole, no row has a number in it, and there is no set
+-- the state as a section begins: it is the one of the next cards and, unless it is ENDATA, is noted as begun; the open
+-- column joins the whole ones, no target has a number, and there is no set
 abbrev pub begun : State → Section → State
 begun s part =
     record s {
@@ -84,12 +87,13 @@ begun s part =
       set = None;
     }
 
--- the state after the word beside OBJSENSE, if there is one
+-- the state after the word beside OBJSENSE: with the sense that it says, or a fault; unchanged where there is no word
 abbrev pub sense_beside : State → List ℕ → Check State
 sense_beside s [] = Ok s
 sense_beside s (b ∷ bs) = take_sense s (b ∷ bs)
 
--- what a section's card says by its second word, which has no bytes where there is none
+-- The state after a section's heading with this second word, which may be empty, or the code of its fault. NAME takes a
+-- valid name or none, and OBJSENSE a sense or none; COLUMNS asks for an objective; other sections pass over the word.
 abbrev pub headed : State → Section → List ℕ → Check State
 headed s section.Name word = must (is_model_name word) code.Name >>= λ _. Ok (record s { name = word })
 headed s section.Sense word = sense_beside s word
@@ -103,15 +107,15 @@ pub data Progress : Type 0 where
   More : (state : State) → Progress
   Done : (model : Model) → Progress
 
--- what a line of a model's text leads to, or the code of the line's fault
+-- what a line leads to: a further state or the model, or the code of the line's fault
 abbrev pub Outcome : Type 0
 Outcome = Check Progress
 
--- a further state as an outcome
+-- a checked state as an outcome: the reader goes on from it; or the code of the fault that the check found
 abbrev pub more : Check State → Outcome
 more check = check >>= λ s. Ok (More s)
 
--- the sense, which is to minimize where the text says nothing
+-- the sense that was read, or to minimize where the text says none
 abbrev pub sense_or_min : Option Sense → Sense
 sense_or_min None = Min
 sense_or_min (Some sense) = sense
@@ -128,23 +132,25 @@ model_by s objective =
       columns = whole_columns s;
     }
 
--- the end of a text: its model, if it has an objective
+-- the outcome at ENDATA: the model that was read; a fault where no objective was read
 unfoldable pub finished : State → Outcome
 finished s = need s.objective code.NoObjective >>= λ objective. Ok (Done (model_by s objective))
 
--- ENDATA ends the text, and each other section begins
+-- the outcome of a section's heading with this second word: ENDATA ends the text with its model, and each other section
+-- begins; or the code of the heading's fault
 abbrev pub begin : State → Section → List ℕ → Outcome
 begin s section.End word = finished s
 begin s part word = more (headed (begun s part) part word)
 
--- what a section card leads to: a known section, not begun before, in its order
+-- the outcome of a section's heading; a fault where the section is unknown, was begun before, or is out of order
 unfoldable pub section_card : State → Fields → Outcome
 section_card s fields = do
   part ← need (section_of (text_at 1 fields)) code.UnknownSection
   _ ← must (may_follow s.seen part && not (has_begun s.seen part)) code.SectionOrder
   begin s part (text_at 2 fields)
 
--- The state after a data card of a section. Before ROWS there are none but under OBJSENSE.
+-- The state after a data card of the section that was begun, or the code of its fault. Under no section, NAME or ENDATA
+-- a data card is a fault.
 abbrev pub data_card : SizeLimits → Style → Option Section → State → Fields → Check State
 data_card limits style (Some section.Sense) s fields = sense_card style s fields
 data_card limits style (Some section.Rows) s fields = rows_card limits style s fields
@@ -154,24 +160,26 @@ data_card limits style (Some section.Ranges) s fields = ranges_card style s fiel
 data_card limits style (Some section.Bounds) s fields = bounds_card style s fields
 data_card limits style part s fields = Err code.CardShape
 
--- what a card leads to
+-- the outcome of a card: a skipped one changes nothing, a heading begins a section or ends the text, and a data card is
+-- taken; or the code of the card's fault
 abbrev pub on_card : SizeLimits → Style → State → Card Fields → Outcome
 on_card limits style s card.Skip = Ok (More s)
 on_card limits style s (card.Section fields) = section_card s fields
 on_card limits style s (card.Given fields) = more (data_card limits style s.part s fields)
 
--- what a line leads to, by what it is read as
+-- the outcome of a line by what it is read as: that of its card, or a fault where a byte is misplaced
 abbrev pub on_reading : SizeLimits → Style → State → CardReading → Outcome
 on_reading limits style s (Is c) = on_card limits style s c
 on_reading limits style s (Misplaced column) = Err code.CardShape
 
--- under OBJSENSE a card is read by its words in both forms
+-- how a line is read by the form: by its words in free form, and under OBJSENSE in both; else by its columns
 abbrev pub reading_of : Style → Option Section → List ℕ → CardReading
 reading_of Free part bytes = free_fields bytes
 reading_of Fixed (Some section.Sense) bytes = free_fields bytes
 reading_of Fixed part bytes = fixed_fields bytes
 
--- what a line of a model's text leads to from a state, or the code of the line's fault
+-- what a line of a model's text leads to from a state: a further state or the model, or the code of the line's fault. A
+-- line that is too long is past a limit, and the end of the input cuts the text off.
 unfoldable pub step : SizeLimits → Style → State → Line (List ℕ) → Outcome
 step limits style s (Text bytes) = on_reading limits style s (reading_of style s.part bytes)
 step limits style s (Long len) = Err code.Limit
@@ -185,34 +193,37 @@ pub data Verdict : Type 0 where
   Spelled : (model : Model) → Verdict
   Refused : (line : ℕ) → (code : Code) → Verdict
 
--- what follows a step at line n
+-- the verdict after the outcome of line n: that of `next` on a further state, or the model, or line n with its fault
 abbrev pub settled : ℕ → (State → Verdict) → Outcome → Verdict
 settled n next (Ok (More s)) = next s
 settled n next (Ok (Done m)) = Spelled m
 settled n next (Err code) = Refused n code
 
--- The first of the lines is line n. Where they end too early, the line that would come next is wrong.
+-- the verdict on lines, of which the first is line n, from a state. Where they end before ENDATA, the line that would
+-- come next is refused as cut off.
 abbrev pub judge : SizeLimits → Style → State → ℕ → List (Line (List ℕ)) → Verdict
 judge limits style s n [] = Refused n code.Cut
 judge limits style s n (line ∷ lines) = settled n (λ t. judge limits style t (n + 1) lines) (step limits style s line)
 
--- the lines up to ENDATA spell this model, which is within these limits
+-- the lines up to ENDATA, read in this form from the first on, spell this model without a fault within these limits
 abbrev pub SpellsWithin : SizeLimits → Style → List (Line (List ℕ)) → Model → Type 0
 SpellsWithin limits style lines m = judge limits style start 1 lines ≡ Spelled m
 
--- line n is the first that is wrong, with this fault
+-- the lines spell no model within these limits: line n, counted from 1, is the first that is wrong, with this fault
 abbrev pub RefusesWithin : SizeLimits → Style → List (Line (List ℕ)) → ℕ → Code → Type 0
 RefusesWithin limits style lines n fault = judge limits style start 1 lines ≡ Refused n fault
 
--- the lines spell this model within the usual limits
+-- the lines up to ENDATA, read in this form, spell this model within the usual limits, 256 rows and 512 columns
 abbrev pub Spells : Style → List (Line (List ℕ)) → Model → Type 0
 Spells = SpellsWithin usual_limits
 
--- the lines are refused within the usual limits, at the line of this number and with this code
+-- the lines spell no model within the usual limits: the line of this number, counted from 1, is the first that is
+-- wrong, with this fault
 abbrev pub Refuses : Style → List (Line (List ℕ)) → ℕ → Code → Type 0
 Refuses = RefusesWithin usual_limits
 
--- exactly one of the two, with one model, or one line and one fault
+-- The lines spell a model or are refused within these limits, and never both. There is no second model that they spell,
+-- and no second line or fault at which they are refused.
 pub record IsJudged (limits : SizeLimits) (style : Style) (lines : List (Line (List ℕ))) : Type 0 where
   pub some : ((m : Model) × SpellsWithin limits style lines m)
       ⊎ ((n : ℕ) × (fault : Code) × RefusesWithin limits style lines n fault)

@@ -11,7 +11,7 @@ use Rattle.spec_mps.specs.declared.section.Section.TheVariants as section
 use Rattle.spec_mps.specs.Cards.{is_skipped, begins_with_blank}
 use Rattle.spec_mps.specs.Fields.{Fields, word_fields, column_fields, text_at}
 
--- the lines of a text
+-- a text, as the list of its lines
 abbrev pub Lines : Type 0
 Lines = List (Line (List ℕ))
 
@@ -41,26 +41,27 @@ is_heading line = not (is_skipped (bytes_of line)) && not (begins_with_blank (by
 abbrev pub begins : Section → Line (List ℕ) → Bool
 begins part line = is_heading line && same (text_at 1 (word_fields (bytes_of line))) (section_word part)
 
--- the lines of a text before the heading ENDATA
+-- the lines of a text before the heading ENDATA; all lines where there is none
 unfoldable pub lines_up_to_end : Lines → Lines
 lines_up_to_end lines = before_first (begins section.End) lines
 
--- the lines between the one that begins the section and the next that begins one
+-- the lines of a section: those between its heading and the next heading, before ENDATA; none where it has no heading
 unfoldable pub lines_in : Section → Lines → Lines
 lines_in part lines = before_first is_heading (after_first (begins part) (lines_up_to_end lines))
 
--- a data card; under OBJSENSE its fields are words in both forms
+-- the fields of a data card of a section: its words in free form, and under OBJSENSE in both; else by their columns
 abbrev pub fields_in : Style → Section → List ℕ → Fields
 fields_in Free part bytes = word_fields bytes
 fields_in Fixed section.Sense bytes = word_fields bytes
 fields_in Fixed part bytes = column_fields bytes
 
--- the data cards of a section, in order
+-- the fields of each data card of a section, in order, without comments and blank lines
 unfoldable pub cards_in : Style → Section → Lines → List Fields
 cards_in style part lines =
     map (λ line. fields_in style part (bytes_of line))
     (filter (λ line. not (is_skipped (bytes_of line))) (lines_in part lines))
 
--- the words of the line that begins a section, if one does
+-- the words of a section's heading, as fields from 1 on, the section's own word first; none where the section has no
+-- heading before ENDATA
 unfoldable pub title_of : Section → Lines → Option Fields
 title_of part lines = option_map (λ line. word_fields (bytes_of line)) (find (begins part) (lines_up_to_end lines))

@@ -28,32 +28,32 @@ WrittenCards = List WrittenCard
 abbrev pub field_at : ℕ → List ℕ → Field
 field_at n text = record { number = n; text = text }
 
--- the card of a section, which has one word
+-- a section's heading that consists of this text alone
 abbrev pub section_card : List ℕ → WrittenCard
 section_card word = Head word []
 
--- a row's type and its name
+-- a card of ROWS: a row's type and its name
 abbrev pub type_card : List ℕ → Name → WrittenCard
 type_card type name = Data (field_at 1 type ∷ field_at 2 name ∷ [])
 
--- a column or a set, a row's name and a number
+-- a card with one number: the name of a column or a set, a row's name, and the number's text
 abbrev pub number_card : Name → Name → ℚ → WrittenCard
 number_card group name value = Data (field_at 2 group ∷ field_at 3 name ∷ field_at 4 (number_text value) ∷ [])
 
--- a kind of bounds, a column and a number
+-- a card of BOUNDS with a number: a kind, the set BND, a column and the number's text
 abbrev pub bound_card : List ℕ → Name → ℚ → WrittenCard
 bound_card kind name value =
     Data (field_at 1 kind ∷ field_at 2 (codes "BND") ∷ field_at 3 name ∷ field_at 4 (number_text value) ∷ [])
 
--- a kind of bounds and a column, without a number
+-- a card of BOUNDS without a number: a kind, the set BND and a column
 abbrev pub unbound_card : List ℕ → Name → WrittenCard
 unbound_card kind name = Data (field_at 1 kind ∷ field_at 2 (codes "BND") ∷ field_at 3 name ∷ [])
 
--- NAME, and after it the model's name, if it has one, where field 3 stands in fixed form
+-- the heading NAME, and behind it the model's name as field 3, if it has one
 abbrev pub name_card : Name → WrittenCard
 name_card name = Head (codes "NAME") (field_of 3 name)
 
--- the sense is written where it is not the usual one, and alike in both forms
+-- the cards of a sense: one heading, OBJSENSE MAX, to maximize; none to minimize, which is usual
 abbrev pub sense_cards : Sense → WrittenCards
 sense_cards Min = []
 sense_cards Max = section_card (codes "OBJSENSE MAX") ∷ []
@@ -65,7 +65,7 @@ kind_word G = codes "G"
 kind_word E = codes "E"
 kind_word N = codes "N"
 
--- the card of a row in ROWS
+-- the card of a row in ROWS: its kind and its name
 abbrev pub row_card : ExactRow → WrittenCard
 row_card r = type_card (kind_word r.kind) r.name
 
@@ -73,7 +73,7 @@ row_card r = type_card (kind_word r.kind) r.name
 unfoldable pub rows_cards : Model → WrittenCards
 rows_cards m = section_card (codes "ROWS") ∷ type_card (codes "N") m.objective ∷ map row_card m.rows
 
--- the cost, 0 too, then the entries in the order of rows
+-- the cards of a column: its cost, also where it is 0, and then each entry in the order of rows
 abbrev pub column_cards : Model → ExactColumn → WrittenCards
 column_cards m c = number_card c.name m.objective c.cost ∷ map (λ e. number_card c.name (row m e.0).name e.1) c.entries
 
@@ -81,17 +81,17 @@ column_cards m c = number_card c.name m.objective c.cost ∷ map (λ e. number_c
 unfoldable pub columns_cards : Model → WrittenCards
 columns_cards m = section_card (codes "COLUMNS") ∷ flat_map (column_cards m) m.columns
 
--- the card of a right side that is not 0
+-- the card of RHS that gives the row of this name this right side, in the set RHS; no card where it is 0
 abbrev pub side_cards : Name → ℚ → WrittenCards
 side_cards name value = if eq_ℚ value 0ℚ then [] else number_card (codes "RHS") name value ∷ []
 
--- The right side of the objective is the negative of the offset.
+-- the section RHS: that of the objective, the negative of the offset, and those of the rows, without those that are 0
 unfoldable pub sides_cards : Model → WrittenCards
 sides_cards m =
     section_card (codes "RHS")
     ∷ (side_cards m.objective (neg_ℚ m.offset) ++ flat_map (λ r. side_cards r.name r.rhs) m.rows)
 
--- the card of a row's range, if there is one
+-- the card of RANGES that gives the row of this name its range, in the set RNG; no card where it has none
 abbrev pub range_cards : Name → Option ℚ → WrittenCards
 range_cards name None = []
 range_cards name (Some v) = number_card (codes "RNG") name v ∷ []
@@ -100,19 +100,21 @@ range_cards name (Some v) = number_card (codes "RNG") name v ∷ []
 abbrev pub has_range : ExactRow → Bool
 has_range r = is_some r.range
 
--- the section RANGES, where a row has a range
+-- the section RANGES with the range of each row that has one; no section where no row has one
 unfoldable pub ranges_cards : Model → WrittenCards
 ranges_cards m =
     if list_any has_range m.rows then section_card (codes "RANGES")
     ∷ flat_map (λ r. range_cards r.name r.range) m.rows else []
 
--- a lower bound 0 and no upper one
+-- whether these bounds are the usual ones: 0 as the lower one, and no upper one
 abbrev pub is_usual : Option ℚ → Option ℚ → Bool
 is_usual None upper = false
 is_usual (Some l) None = eq_ℚ l 0ℚ
 is_usual (Some l) (Some u) = false
 
--- the bounds of a column, if they are not the usual ones
+-- The cards of a column's bounds; none where they are 0 and none. FR is for no bounds, MI and UP for an upper one
+-- alone, LO for a lower one alone, and FX for two equal ones. UP alone is for 0 and a positive one, else LO and UP for
+-- both.
 abbrev pub bound_cards : Name → Option ℚ → Option ℚ → WrittenCards
 bound_cards name None None = unbound_card (codes "FR") name ∷ []
 bound_cards name None (Some u) = unbound_card (codes "MI") name ∷ bound_card (codes "UP") name u ∷ []
@@ -126,7 +128,7 @@ bound_cards name (Some l) (Some u) =
 abbrev pub has_bounds : ExactColumn → Bool
 has_bounds c = not (is_usual c.lower c.upper)
 
--- the section BOUNDS, where a column has other bounds than the usual ones
+-- the section BOUNDS with each column whose bounds are not the usual ones; no section where all are usual
 unfoldable pub bounds_cards : Model → WrittenCards
 bounds_cards m =
     if list_any has_bounds m.columns then section_card (codes "BOUNDS")
@@ -151,7 +153,8 @@ first_column n =
 abbrev pub field_width : ℕ → ℕ
 field_width n = if n == 1 then 2 else (if n == 4 || n == 6 then 12 else 8)
 
--- a line with one blank after it, or with blanks up to the field's first column
+-- the line up to where field n begins: in free form with one blank behind it, in fixed form with blanks up to the
+-- field's first column
 abbrev pub padded : Style → ℕ → List ℕ → List ℕ
 padded Free n line = line ++ 32 ∷ []
 padded Fixed n line = line ++ replicate (first_column n - 1 - length line) 32
@@ -161,12 +164,12 @@ abbrev pub with_fields : Style → List ℕ → Fields → List ℕ
 with_fields style line [] = line
 with_fields style line (f ∷ fs) = with_fields style (padded style f.number line ++ f.text) fs
 
--- the line of a card
+-- the bytes of a card's line in this form, without a line feed
 abbrev pub line_text : Style → WrittenCard → List ℕ
 line_text style (Head start fields) = with_fields style start fields
 line_text style (Data fields) = with_fields style [] fields
 
--- a line feed after each line
+-- the text of cards: the line of each, with a line feed behind it
 abbrev pub cards_text : Style → WrittenCards → List ℕ
 cards_text style cards = flat_map (λ card. line_text style card ++ 10 ∷ []) cards
 
@@ -184,15 +187,15 @@ fixed m = cards_text Fixed (cards_of m)
 abbrev pub is_wide : Field → Bool
 is_wide f = nat_lt (field_width f.number) (length f.text)
 
--- the fields of data cards
+-- the fields of a data card; none of a heading
 abbrev pub data_fields : WrittenCard → Fields
 data_fields (Head start fields) = []
 data_fields (Data fields) = fields
 
--- the first field of the cards that is too wide
+-- the text of the first field on these cards that fixed form has no room for, headings left out; none if all fit
 abbrev pub first_wide : WrittenCards → Option (List ℕ)
 first_wide cards = option_map (λ f. f.text) (find is_wide (flat_map data_fields cards))
 
--- the first text of a model that has no room in fixed form, if there is one
+-- the first text on a model's cards, headings left out, that fixed form has no room for; none if all fit
 unfoldable pub too_wide : Model → Option (List ℕ)
 too_wide m = first_wide (cards_of m)

@@ -51,6 +51,8 @@ pub enum Code {
 impl From<NumFault> for Code {
     ghost from_gives = { λ fault code. code ≡ fault_code fault };
 
+    /// The code for what is wrong with a number's text: `NumberShape` where it is no number, `NumberWide` where it is
+    /// past 127 bits.
     fn from(fault: NumFault) -> Self {
         match fault {
             NumFault::Shape => Code::NumberShape,

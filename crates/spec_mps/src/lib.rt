@@ -80,35 +80,36 @@ pub fn spelled_texts_are_kept()
         SpellsWithin limits style lines m → IsModelWithin limits m }
 {}
 
-/// A text that spells a model spells it within greater limits too.
+/// A text that spells a model within limits of size spells the same model within any limits that are at least those.
 pub fn greater_limits_read_the_same()
     ensures { (few many : SizeLimits) (style : Style) (lines : List (Line (List ℕ))) (m : Model) →
         AreAtMost few many → SpellsWithin few style lines m → SpellsWithin many style lines m }
 {}
 
-/// The text of a fraction within the width is read as that fraction.
+/// The text that a fraction within 127 bits is written as is read as that fraction.
 pub fn written_numbers_are_read()
     ensures { (q : ℚ) → unsigned_abs q.num ≤ number_limit → q.den ≤ number_limit → number_of (number_text q) ≡ Is q }
 {}
 
-/// The text of a fraction within the width is one word of printed bytes.
+/// The text that a fraction within 127 bits is written as is one word of printable bytes.
 pub fn written_numbers_are_words()
     ensures { (q : ℚ) → unsigned_abs q.num ≤ number_limit → q.den ≤ number_limit → IsWord (number_text q) }
 {}
 
-/// The text that a model is written as spells that model and no other, in both forms.
+/// The text that a usual model is written as spells that model and no other within the usual limits: in free form, and
+/// in fixed form where it has room for the model's texts.
 pub fn written_texts_spell_their_models()
     ensures free { (m n : Model) → IsUsualModel m → (Spells form.Free (lines_of (free m)) n ↔ (n ≡ m)) }
     ensures fixed { (m n : Model) → IsUsualModel m → too_wide m ≡ None →
         (Spells form.Fixed (lines_of (fixed m)) n ↔ (n ≡ m)) }
 {}
 
-/// A number of a size below 10^20 is a finite bound.
+/// A text that is read as a number within 127 bits, of a size below 10^20, is read as this number where a bound stands.
 pub fn small_numbers_are_bounds()
     ensures { (text : List ℕ) (q : ℚ) → number_of text ≡ Is q → abs_ℚ q <ℚ infinite → bound_of text ≡ Finite q }
 {}
 
-/// A finite bound is of a size below 10^20.
+/// A text that is read as a finite bound spells a number of a size below 10^20.
 pub fn finite_bounds_are_small()
     ensures { (text : List ℕ) (q : ℚ) → bound_of text ≡ Finite q → abs_ℚ q <ℚ infinite }
 {}

@@ -139,7 +139,9 @@ pub fn bounds_cards_are_bounds()
         ≡ upper_of style (bounds_of_column style (column m j).name (cards_in style section.Bounds lines))) }
 {}
 
-/// What the sum of a row may be, by its kind, its right side and its range.
+/// What the sum of a row may be: at most the right side for L, at least it for G, equal to it for E, anything for N.
+/// With a range, L has a second limit, the range's size below the right side, and G one above it. E goes from the right
+/// side up by a range that is not negative, or down by a negative one.
 pub fn rows_have_limits()
     ensures at_most { (r : ExactRow) (v : ℚ) → r.kind ≡ kind.L → r.range ≡ None →
         IsBetween (limits_of r) v ↔ (v ≤ℚ r.rhs) }

@@ -23,12 +23,13 @@ pub fn narrow_numbers_are_read_the_same()
     ensures { (text : List ℕ) (q : ℚ) → number_of text ≡ number.Is q → wide_of text ≡ wide.Is q }
 {}
 
-/// A fraction of 127 bits is written as it is without wide numbers.
+/// For a fraction within 127 bits, `wide_text` writes the same text as `number_text`, the one for such fractions.
 pub fn narrow_numbers_are_written_the_same()
     ensures { (q : ℚ) → IsNarrow q → wide_text q ≡ number_text q }
 {}
 
-/// The text of a fraction is read as that fraction, where it has at most as many bytes as a power of ten may have zeros.
+/// The text that a fraction of any width is written as is read as that fraction, where the text has at most 16,384
+/// bytes.
 pub fn written_wide_numbers_are_read()
     ensures { (q : ℚ) → length (wide_text q) ≤ most_zeros → wide_of (wide_text q) ≡ wide.Is q }
 {}
