@@ -3,8 +3,8 @@
 -- `whole_skip`: a comment or a blank line leaves all cards of the text as they are.
 -- `whole_data`: reading a data card of the current section moves it from the cards that are to come to the cards that
 --   were read.
--- `whole_heading`: reading a heading moves it from the headings to come to those that were read, and makes its section
---   the current one.
+-- `whole_heading`: reading the heading of a section that has not begun, other than ENDATA, moves it from the headings
+--   to come to those that were read, and makes its section the current one.
 -- `whole_end`: at ENDATA all cards of the text are those that were read.
 -- `whole_is`: before the first line all cards to come are the cards of the whole text.
 use Rattle.std.proofs.Common.{◌≡◌, ℕ, Bool, true, false, Option, Some, None, List}
@@ -124,7 +124,7 @@ whole_end c style here seen l lines h =
 
 -- ---- the cards of a whole text
 
--- by the definitions of a text
+-- the headings and the data cards of a whole text, section by section, as the definitions of a text's meaning have them
 abbrev pub all_of : Style → Lines → SoFar
 all_of style lines =
     record {

@@ -2,7 +2,7 @@
 --
 -- `effects`: the fields of a card of BOUNDS say of both bounds what the reader does with the card.
 -- `bounded_push`: a column with the bounds that some cards say has, after one more card, those that all of them say.
--- `none_bounded`: a column with a lower bound 0 and no upper one has the bounds that no card says.
+-- `none_bounded`: a column with a lower bound 0 and no upper one has the bounds of a column without cards in BOUNDS.
 use Rattle.std.proofs.Common.{◌≡◌, ℕ, Bool, true, false, not, ◌&&◌, ◌||◌, cond, Option, Some, None}
 use Rattle.std.proofs.Common.{is_some, Ok, List, [], ◌∷◌, ◌++◌, refl, sym, ap, ◌∙◌, subst, append-nil}
 use Rattle.std.specs.List.{filter_map, cons_option, list_any}
@@ -23,21 +23,25 @@ use Rattle.spec_mps.specs.BoundCards.{lower_on, has_negative_upper, last_or, upp
 
 -- ---- one card
 
+-- what a card makes the upper bound: a number, or no bound at all; none where it does not set it
 abbrev upper_set : BoundCard → Option (Option ℚ)
 upper_set (SetsUpper u) = Some u
 upper_set (SetsLower l) = None
 upper_set (SetsBoth l u) = Some u
 
+-- what a card makes the lower bound: a number, or no bound at all; none where it does not set it
 abbrev lower_set : BoundCard → Option (Option ℚ)
 lower_set (SetsUpper u) = None
 lower_set (SetsLower l) = Some l
 lower_set (SetsBoth l u) = Some l
 
+-- whether a card sets an upper bound alone that is below 0, which takes away a lower bound that no card has set
 abbrev drops : BoundCard → Bool
 drops (SetsUpper u) = is_negative u
 drops (SetsLower l) = false
 drops (SetsBoth l u) = false
 
+-- a card of this kind with this value says of both bounds, and of an upper one below 0, what the reader does with it
 record Does (kind : BoundKind) (value : BoundReading) (does : BoundCard) : Type 0 where
   upper : upper_by (Some kind) value ≡ upper_set does
   lower : lower_by (Some kind) value ≡ lower_set does
@@ -95,7 +99,7 @@ card_does Pl text does h =
     subst (Does Pl (bound_of text)) (same_ok (SetsUpper None) does h)
     (record { upper = refl; lower = refl; below = refl })
 
--- the fields of a card say of both bounds what the reader does with the card
+-- what the fields of a card say of both bounds, and of a negative upper one, is what the reader's card `does`
 pub record Effects (style : Style) (card : Fields) (does : BoundCard) : Type 0 where
   upper : upper_on style card ≡ upper_set does
   lower : lower_on style card ≡ lower_set does
@@ -135,6 +139,7 @@ any_push test (x ∷ cards) card =
     by true b c = refl
     by false b c = refl
 
+-- the bound that a card makes, or the old one where the card does not set it
 abbrev or_kept : Option (Option ℚ) → Option ℚ → Option ℚ
 or_kept (Some bound) old = bound
 or_kept None old = old
@@ -153,10 +158,11 @@ upper_push style cards card =
     ap (last_or None) (filter_map-append (upper_on style) cards (card ∷ []))
     ∙ last_added None (filter_map (upper_on style) cards) (upper_on style card)
 
--- a card has set the lower bound
+-- whether one of these cards sets the lower bound or takes it away
 abbrev pub is_lowered : Style → List Fields → Bool
 is_lowered style cards = list_any (λ card. is_some (lower_on style card)) cards
 
+-- the lower bound before a card sets it: 0, or absent where the flag says that an upper bound is negative
 abbrev first_lower : Bool → Option ℚ
 first_lower negative = cond negative None (Some 0ℚ)
 
@@ -227,6 +233,7 @@ lower_kept style cards negative = by (is_lowered style cards) refl
 
 -- ---- a column's bounds
 
+-- the column has the bounds that these cards make, and the flag says whether one of them sets the lower bound
 pub record IsBounded (style : Style) (cards : List Fields) (c : ExactColumn) (lowered : Bool) : Type 0 where
   pub upper : c.upper ≡ upper_of style cards
   pub lower : c.lower ≡ lower_of style cards

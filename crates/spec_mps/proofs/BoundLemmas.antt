@@ -1,6 +1,7 @@
 -- Numbers and their absolute values against a limit, and which texts are finite bounds.
 --
--- `within_from_abs`: a number with an absolute value below a limit is between the limit's negative and the limit.
+-- `within_from_abs`: a number with an absolute value below a limit is strictly between the limit's negative and the
+--   limit.
 -- `abs_from_within`: a number strictly between a limit's negative and the limit has an absolute value below the limit.
 -- `number_is_bound`: a text read as a number strictly between -10^20 and 10^20 is read as that finite bound.
 -- `bound_is_within`: a text read as a finite bound stands for a number strictly between -10^20 and 10^20.
@@ -20,7 +21,7 @@ use Rattle.spec_mps.specs.BoundText.{is_infinity, infinity, as_bound, bound_by_v
 
 -- ---- magnitudes
 
--- strictly between a limit's negative and the limit
+-- the number q is strictly between the negative of the limit and the limit
 pub record IsWithin (limit q : ℚ) : Type 0 where
   pub above : neg_ℚ limit <ℚ q
   pub below : q <ℚ limit

@@ -22,6 +22,7 @@ use Rattle.spec_mps.specs.BoundCards.{kind_of, has_value, bound_texts_on}
 
 -- ---- the kind
 
+-- the word for a kind of bounds on a card
 abbrev kind_word : BoundKind → List ℕ
 kind_word Up = codes "UP"
 kind_word Lo = codes "LO"
@@ -30,7 +31,7 @@ kind_word Fr = codes "FR"
 kind_word Mi = codes "MI"
 kind_word Pl = codes "PL"
 
--- what is read beside a word is the kind of that word
+-- in this table, each word beside which a kind of bounds stands is the word of that kind
 abbrev AllSay : List (List ℕ × Check BoundKind) → Type 0
 AllSay [] = Unit {0}
 AllSay (x ∷ xs) = ((kind : BoundKind) → x.1 ≡ Ok kind → x.0 ≡ kind_word kind) × AllSay xs
@@ -88,6 +89,7 @@ kind_is word kind h = ap kind_of (word_is word kind h) ∙ kind_of_word kind
 
 -- ---- fields by their numbers
 
+-- these texts as fields with these numbers, as far as both lists go
 abbrev numbered : List ℕ → List (List ℕ) → Fields
 numbered [] texts = []
 numbered (n ∷ ns) [] = []
@@ -103,6 +105,7 @@ many : (fields : Fields) → length (texts_of fields) ≡ length (numbers_of fie
 many [] = refl
 many (f ∷ fields) = ap suc (many fields)
 
+-- the property holds of fields of each of these shapes, whatever their texts are
 abbrev AllShapes : (Fields → Type 0) → List (List ℕ) → Type 0
 AllShapes P [] = Unit {0}
 AllShapes P (shape ∷ shapes) =
@@ -145,7 +148,7 @@ of_four Q f (a ∷ more) h = of_three (λ texts. Q (a ∷ texts)) (f a) more (om
 
 -- ---- set, column and value
 
--- what is read of such fields
+-- where the reader takes these texts from the fields of a card of this kind, the fields mean these texts
 abbrev IsRead : Style → BoundKind → BoundTexts → Fields → Type 0
 IsRead style kind texts fields =
     bound_texts_by (takes_value kind) (texts_of (filter (λ f. is_read kind f.number) fields)) ≡ Ok texts →

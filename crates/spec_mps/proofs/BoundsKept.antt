@@ -1,6 +1,7 @@
 -- The bounds of columns, and what one more card of BOUNDS makes of them.
 --
--- `new_bounded`: columns that no card has bounded have the bounds that no card says.
+-- `new_bounded`: where there are no cards of BOUNDS, columns with a lower bound 0 and no upper one have the bounds
+--   that the cards say.
 -- `bounds_card_says`: where the state's bounds are what the cards that were read say, they still are after one more
 --   card of BOUNDS.
 use Rattle.std.proofs.Common.{◌≡◌, ◌≢◌, ℕ, zero, suc, ◌+◌, ◌<◌, Bool, true, false, not, ◌&&◌, ◌||◌}
@@ -36,9 +37,11 @@ use Rattle.spec_mps.proofs.BoundEffects.{Effects, effects, IsBounded, bounded_pu
 
 -- ---- the cards of a column
 
+-- the set that a card of BOUNDS names; none if it names none
 abbrev pub set_of : Style → Fields → Option Name
 set_of style card = (bound_on style card).set
 
+-- the set of the first of these cards of BOUNDS, which may be absent; none where there is no card
 abbrev pub first_bound : Style → List Fields → Option (Option Name)
 first_bound style [] = None
 first_bound style (card ∷ cards) = Some (set_of style card)
@@ -96,25 +99,30 @@ no_cards style name = refl
 
 -- ---- what the cards say of columns
 
+-- the names of these columns, in order
 abbrev pub column_names : List ExactColumn → List Name
 column_names columns = map (λ c. c.name) columns
 
+-- the number of the first column with this name; none if none has it
 abbrev pub column_place : Name → List ExactColumn → Option ℕ
 column_place name columns = position (λ n. same n name) (column_names columns)
 
--- each column, by its name's place
+-- each column has the bounds that the cards that name it make, and the flag at its place says whether one of them sets
+-- its lower bound
 pub record AreBounded (style : Style) (cards : List Fields)
     (columns : List ExactColumn) (lowered : List Bool) : Type 0 where
   pub said : (name : Name) (j : ℕ) → column_place name columns ≡ Some j →
       IsBounded style (bounds_of_column style name cards) (get_or columns j no_column) (get_or lowered j false)
   pub many : length lowered ≡ length columns
 
--- columns that no card has bounded
+-- each column has the usual bounds, 0 and none, and no flag says that a card has set a lower bound
 pub record AreNew (columns : List ExactColumn) (lowered : List Bool) : Type 0 where
   pub bounds : All (λ c. (c.lower ≡ Some 0ℚ) × (c.upper ≡ None)) columns
   pub many : length lowered ≡ length columns
   pub unset : (j : ℕ) → get_or lowered j false ≡ false
 
+-- the bounds of the state's columns are what these cards of BOUNDS say; before BOUNDS begins there are no cards and no
+-- bounds are set, and while it is read the set in use is that of its first card
 pub record BoundsSay (style : Style) (cards : List Fields) (s : State) : Type 0 where
   pub none : s.seen.bounds ≡ false → (cards ≡ []) × AreNew (whole_columns s) s.lowered
   pub bounded : AreBounded style cards (whole_columns s) s.lowered
@@ -240,6 +248,8 @@ module _ (style : Style) (cards : List Fields) (card : Fields) (columns : List E
           sym b ∙ ap (λ i. get_or (column_names columns) i []) (sym here) ∙ a in
           not_both (same (bound_on style card).column name) (ap (λ n. same n name) c ∙ same-refl name) f
 
+  -- where the columns have the bounds that some cards say, and one more card changes the column that it names, they
+  -- have those that all of these cards say
   pub card_bounded : AreBounded style (cards ++ card ∷ [])
       (changed_at place change columns) (changed_at place lower lowered)
   card_bounded =

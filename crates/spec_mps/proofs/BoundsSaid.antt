@@ -40,6 +40,7 @@ use Rattle.spec_mps.proofs.BoundsKept.{AreNew, BoundsSay, new_bounded, bounds_ca
 
 -- ---- columns before BOUNDS
 
+-- the column has the usual bounds: 0 as the lower one and no upper one
 abbrev IsNew : ExactColumn → Type 0
 IsNew c = (c.lower ≡ Some 0ℚ) × (c.upper ≡ None)
 
@@ -127,6 +128,7 @@ columns_new limits style s card t h k =
 
 -- ---- cards of other sections
 
+-- what a state keeps of columns: the whole ones, the open one, and of which a card has set the lower bound
 abbrev bounds_view : State → List ExactColumn × Option ExactColumn × List Bool
 bounds_view s = (s.columns, s.column, s.lowered)
 
@@ -256,7 +258,8 @@ own_place : (names : List Name) (j : ℕ) → AllPairs (λ x y. x ≢ y) names �
     position (λ n. same n (get_or names j [])) names ≡ Some j
 own_place names j h l = rw (own_first names j h l, lt-ltb j (length names) l) refl
 
--- the bounds of a column are those of its cards
+-- the bounds of each column of a spelled model are those that the cards of BOUNDS make that name it, in the set of the
+-- first card
 pub bounds_said : (limits : SizeLimits) (style : Style) (lines : Lines) (m : Model) →
     SpellsWithin limits style lines m → (j : ℕ) → j < width m →
     ((column m j).lower ≡ lower_of style

@@ -12,12 +12,13 @@ use Rattle.spec_mps.specs.Bounds.{BoundCard, SetsUpper, SetsLower, SetsBoth}
 use Rattle.spec_mps.specs.Bounds.{upper_card, lower_card, both_card, bound_in, bound_card}
 use Rattle.spec_mps.proofs.CheckSteps.{step_ok, same_ok}
 
--- each bound that a card sets
+-- the property holds of each number that a card makes a bound; of no bound nothing is asked
 abbrev pub SetsAll : (ℚ → Type 0) → BoundCard → Type 0
 SetsAll P (SetsUpper u) = IfSome u P
 SetsAll P (SetsLower l) = IfSome l P
 SetsAll P (SetsBoth l u) = IfSome l P × IfSome u P
 
+-- the property holds of a finite value; of an infinite one nothing is asked
 abbrev IsValue : (ℚ → Type 0) → BoundValue ℚ → Type 0
 IsValue P (Finite q) = P q
 IsValue P PlusInf = Unit {0}
@@ -51,6 +52,8 @@ module _ (P : ℚ → Type 0) (of_text : (text : List ℕ) (q : ℚ) → bound_o
   both_is PlusInf card p h = absurd (cc)
   both_is MinusInf card p h = absurd (cc)
 
+  -- where a property holds of each finite bound that a text is read as, it holds of each bound that a card of BOUNDS
+  -- sets
   pub card_sets : (kind : BoundKind) (text : List ℕ) (card : BoundCard) → bound_card kind text ≡ Ok card →
       SetsAll P card
   unfolding bound_card

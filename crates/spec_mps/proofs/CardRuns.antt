@@ -38,6 +38,8 @@ use Rattle.spec_mps.proofs.AllCards.{whole_skip, whole_data, whole_heading, whol
 
 -- ---- a property of the cards so far and the state
 
+-- a property of the cards so far and the reader's state holds at the start, and each heading and each data card that
+-- the reader takes keeps it
 pub record IsKept (limits : SizeLimits) (style : Style) (Inv : SoFar → State → Type 0) : Type 0 where
   pub at_start : Inv nothing start
   pub at_heading : (c : SoFar) (s t : State) (part : Section) (words : Fields) → IsOrdered s.part s.seen →
@@ -62,7 +64,7 @@ both_kept limits style P Q p q =
           (p.at_card c s t part fields o here h k.0, q.at_card c s t part fields o here h k.1);
     }
 
--- the model is made of a state of which the property holds with these cards
+-- the model is the one made of some last state, of which the property holds with these cards
 pub record Ends (Inv : SoFar → State → Type 0) (c : SoFar) (m : Model) : Type 0 where
   pub last : State
   pub objective : Name
@@ -76,7 +78,7 @@ pub stays : (part : Section) (s t : State) → Leads part s t → (t.part ≡ s.
 stays section.Name s t h = (ap (λ (u : State). u.part) h, ap (λ (u : State). u.seen) h)
 stays part s t h = (ap (λ (u : State). u.part) h, ap (λ (u : State). u.seen) h)
 
--- but for the name and the sense
+-- a state without its name and its sense
 abbrev pub untitled : State → State
 untitled s = record s { name = []; sense = None }
 
@@ -106,7 +108,7 @@ headed_leads s part word t h = subst (λ u. untitled u ≡ untitled s) (same_ok 
 same_more : (s t : State) → More s ≡ More t → s ≡ t
 same_more s t h = cc
 
--- what a line that begins a section did
+-- these words name this section, which may follow and has not begun, and its beginning leads to p
 record HeadingDid (s : State) (words : Fields) (part : Section) (p : Progress) : Type 0 where
   part_is : section_of (text_at 1 words) ≡ Some part
   may : may_follow s.seen part ≡ true
@@ -255,6 +257,8 @@ module _ (limits : SizeLimits) (style : Style) (Inv : SoFar → State → Type 0
   judged_ends (l ∷ lines) s n m h c o k =
       settled_ends c s l lines n m (step limits style s l) refl h o k (λ t e. judged_ends lines t (n + 1) m e)
 
+  -- a property that is kept holds of the state that a spelled model is made of, with the cards that the reader has gone
+  -- through
   pub spelled_ends : (lines : Lines) (m : Model) → SpellsWithin limits style lines m →
       Ends Inv (whole nothing style start.part start.seen lines) m
   spelled_ends lines m h = judged_ends lines start 1 m h nothing start_ordered kept.at_start

@@ -1,9 +1,10 @@
 -- What a data card of each section did to the reader's state.
 --
 -- `sense_did`: a word that the reader takes as the sense is a sense, is the first one, and is kept in the state.
--- `rows_did`: a card of ROWS that is taken has a known type, a valid name that is not taken and room; its row is added.
+-- `rows_did`: a card of ROWS that is taken has a known type and a valid name that is not taken; its row is added, for
+--   which there is room, or is the objective where it is the first of type N.
 -- `pairs_keep`: what each pair of a name and a number keeps, a list of pairs keeps when they are taken in turn.
--- `column_puts`: the pairs of a COLUMNS card are taken in turn, each as an entry of the column.
+-- `column_puts`: the pairs of a COLUMNS card are taken in turn, each as the open column's cost or entry.
 -- `side_puts`: the pairs of an RHS card are taken in turn, each as a right side.
 -- `put_range_did`: a range that is taken was dropped because its row is free, or was given to a row that had none.
 -- `range_puts`: the pairs of a RANGES card are taken in turn, each as a range of a row.
@@ -67,6 +68,8 @@ sense_did s word t h =
 
 -- ---- ROWS
 
+-- what a card of ROWS that leads from s to t had: a known type, a valid name that is not taken, and room, unless it is
+-- the objective; t is s with this row or objective
 pub record RowsDid (limits : SizeLimits) (s : State) (fields : Fields) (t : State) : Type 0 where
   pub kind : Kind
   pub kind_is : row_type_of (text_at 1 fields) ≡ Some kind
@@ -98,7 +101,7 @@ rows_did style s fields t h =
 
 -- ---- pairs of a row's name and a number
 
--- the number of a pair was put at the place that its name stands for
+-- a pair leads from s to t: `put` put its number at the target that its name stands for
 pub record PairDid (put : State → Target → ℚ → Check State)
     (s : State) (pair : List ℕ × List ℕ) (t : State) : Type 0 where
   pub place : Target
@@ -107,7 +110,8 @@ pub record PairDid (put : State → Target → ℚ → Check State)
   pub number_is : number_in pair.1 ≡ Ok value
   pub did : put s place value ≡ Ok t
 
--- each pair in its turn
+-- `run` takes pairs in turn: of none it leaves the state, and of more it puts the first one's number at its target by
+-- `put` and then takes the others
 pub record PutsPairs (put : State → Target → ℚ → Check State)
     (run : State → List (List ℕ × List ℕ) → Check State) : Type 0 where
   pub none : (s t : State) → run s [] ≡ Ok t → s ≡ t
@@ -161,7 +165,7 @@ unfolding side_pair
 side_puts =
     puts_by put_side (λ s pair. side_pair s pair.0 pair.1) side_pairs same_ok (λ s pair pairs. refl) (pair_did put_side)
 
--- a range at a target, which may not be the objective
+-- the state with a range at a target, unchanged for a free row; a fault for the objective
 abbrev pub put_ranged : State → Target → ℚ → Check State
 put_ranged s place v = ranged_row place >>= λ row. put_range s row v
 
@@ -177,7 +181,7 @@ range_did s pair t h =
     subst (λ (r : Check ℕ). (r >>= λ row. put_range s row c.0) ≡ Ok t) (sym b.1) c.2 in
     record { place = a.0; value = c.0; place_is = a.1; number_is = c.1; did = put }
 
--- a range is forgotten, or a row that had none gets it
+-- what a range for row i did from s to t: nothing, as the row is free; or the row, which had none, has it now
 pub data RangeDid (s : State) (i : ℕ) (v : ℚ) (t : State) : Type 0 where
   Forgotten : (free : is_free (get_or s.rows i no_row).kind ≡ true) → (same : s ≡ t) → RangeDid s i v t
   Kept : (limited : is_free (get_or s.rows i no_row).kind ≡ false) → (did : new_range s i v ≡ Ok t) → RangeDid s i v t
@@ -195,7 +199,7 @@ pub range_puts : PutsPairs put_ranged range_pairs
 range_puts =
     puts_by put_ranged (λ s pair. range_pair s pair.0 pair.1) range_pairs same_ok (λ s pair pairs. refl) range_did
 
--- what the number of a pair does at a place
+-- the state with a number at a target: as its right side in RHS, as its range in RANGES
 abbrev pub put_of : Sets → State → Target → ℚ → Check State
 put_of Sides = put_side
 put_of Ranges = put_ranged
@@ -206,7 +210,8 @@ puts_of Ranges = range_puts
 
 -- ---- COLUMNS
 
--- a new column, or the one that is read
+-- how the column of this name was opened from s to t: it was open already; or it is new, with a free name and room, and
+-- the old open one is whole
 pub data Opens (limits : SizeLimits) (s : State) (name : Name) (t : State) : Type 0 where
   Same : (known : is_open s.column name ≡ true) → (same : s ≡ t) → Opens limits s name t
   New : (other : is_open s.column name ≡ false) →
@@ -241,6 +246,8 @@ opened_did {limits = limits} s name t h = go (is_open s.column name) refl h
         let b = must_ok (ltb (length (whole_columns s)) limits.columns) code.Limit _ t a.1 in
         New e a.0 b.0 (same_ok _ t b.1)
 
+-- what the texts of a card of COLUMNS that leads from s to t had: a valid name, whose column is opened or goes on, and
+-- pairs, which lead on to t
 pub record ColumnsDid (limits : SizeLimits) (s : State) (texts : List (List ℕ)) (t : State) : Type 0 where
   pub name : List ℕ
   pub more : List (List ℕ)
@@ -279,7 +286,8 @@ columns_did {limits = limits} style s fields t h =
 
 -- ---- RHS and RANGES
 
--- a card of the set that is used, or of another one
+-- what a card of RHS or RANGES did from s to t: its set is in use, and `does` took its pairs; or it is another set, and
+-- nothing changed
 pub data SetDid (s : State) (card : SetAndPairs)
     (does : State → List (List ℕ × List ℕ) → Check State) (t : State) : Type 0 where
   Used : (used : is_used s.set card.set ≡ true) → (did : does (record s { set = Some card.set }) card.pairs ≡ Ok t) →
@@ -327,6 +335,8 @@ set_keeps put run puts K of_set of_pair s card t (Skipped other same) k = subst 
 
 -- ---- BOUNDS
 
+-- what a card of BOUNDS of this kind and with these texts did from s to t: it bounded a column of the state, or was
+-- skipped, as its set is another than the one in use
 pub data BoundDid (s : State) (kind : BoundKind) (texts : BoundTexts) (t : State) : Type 0 where
   UsedBound : (place : ℕ) → (card : BoundCard) → (used : is_used s.set texts.set ≡ true) →
       (place_is : position (λ c. same c.name texts.column) s.columns ≡ Some place) →
@@ -334,6 +344,7 @@ pub data BoundDid (s : State) (kind : BoundKind) (texts : BoundTexts) (t : State
       (did : with_bound (record s { set = Some texts.set }) place card ≡ t) → BoundDid s kind texts t
   SkippedBound : (other : is_used s.set texts.set ≡ false) → (same : s ≡ t) → BoundDid s kind texts t
 
+-- a card of BOUNDS that leads from s to t has a known kind and the texts of a shape of it, and did what these say
 pub record BoundsDid (style : Style) (s : State) (fields : Fields) (t : State) : Type 0 where
   pub kind : BoundKind
   pub texts : BoundTexts

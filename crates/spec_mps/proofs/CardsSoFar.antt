@@ -29,10 +29,12 @@ use Rattle.spec_mps.specs.TextCards.{Lines, bytes_of, section_word, is_heading, 
 
 -- ---- the elements before and after the first that passes a test
 
+-- the items before the first one that passes the test; all where none passes
 abbrev pub before : {A : Type 0} → (A → Bool) → List A → List A
 before test [] = []
 before test (x ∷ xs) = cond (test x) [] (x ∷ before test xs)
 
+-- the items behind the first one that passes the test; none where none passes
 abbrev pub behind : {A : Type 0} → (A → Bool) → List A → List A
 behind test [] = []
 behind test (x ∷ xs) = cond (test x) xs (behind test xs)
@@ -59,6 +61,7 @@ behind_is test (x ∷ xs) = drop_more (test x) (position_or_len test xs) x xs (b
 
 -- ---- sections by their words
 
+-- whether the first section is there, and is the second one
 abbrev pub is_section : Option Section → Section → Bool
 is_section None part = false
 is_section (Some here) part = same (section_word here) (section_word part)
@@ -93,6 +96,8 @@ fields_same style p q bytes h = ap (λ part. fields_in style part bytes) (same_s
 
 -- ---- the cards so far
 
+-- what was read of a text so far: the words of the headings NAME and OBJSENSE, if they came, and the data cards of each
+-- section, in order
 pub record SoFar : Type 0 where
   pub name_title : Option Fields
   pub sense_title : Option Fields
@@ -103,6 +108,7 @@ pub record SoFar : Type 0 where
   pub ranges : List Fields
   pub bounds : List Fields
 
+-- nothing was read so far: no heading and no card
 abbrev pub nothing : SoFar
 nothing =
     record {
@@ -116,10 +122,12 @@ nothing =
       bounds = [];
     }
 
+-- the cards with this one at the end where the flag is true, else as they are
 abbrev pub pushed : Bool → List Fields → Fields → List Fields
 pushed true cards fields = cards ++ fields ∷ []
 pushed false cards fields = cards
 
+-- what was read so far, with one more data card of this section
 abbrev pub with_card : Section → Fields → SoFar → SoFar
 with_card part fields c =
     record c {
@@ -131,14 +139,17 @@ with_card part fields c =
       bounds = pushed (is_section (Some part) section.Bounds) c.bounds fields;
     }
 
+-- the first fields, or the second ones where the first are none
 abbrev pub or_else : Option Fields → Option Fields → Option Fields
 or_else None o = o
 or_else (Some fields) o = Some fields
 
+-- the heading that was read: where the flag is true and there was none, these words, else the old one
 abbrev pub titled : Bool → Option Fields → Fields → Option Fields
 titled true o fields = or_else o (Some fields)
 titled false o fields = o
 
+-- what was read so far, with the words of a heading of this section, which are kept for NAME and OBJSENSE
 abbrev pub with_title : Section → Fields → SoFar → SoFar
 with_title part fields c =
     record c {
@@ -148,28 +159,36 @@ with_title part fields c =
 
 -- ---- those to come
 
--- the lines of a section that is here, that is over, or that is to come
+-- the lines of a section that are still to come: up to the next heading where it is here, as the first flag says; none
+-- where it is over, as the second does; else those behind its heading
 abbrev pub lines_by : Bool → Bool → Section → Lines → Lines
 lines_by true seen part lines = before is_heading lines
 lines_by false true part lines = []
 lines_by false false part lines = before is_heading (behind (begins part) lines)
 
+-- the fields of each of these lines as a data card of this section, without comments and blank lines
 abbrev pub cards_of : Style → Section → Lines → List Fields
 cards_of style part lines =
     map (λ l. fields_in style part (bytes_of l)) (filter (λ l. not (is_skipped (bytes_of l))) lines)
 
+-- the data cards of a section that are still to come in these lines, by the section that is here and by whether the
+-- other one has begun
 unfoldable pub cards_to_come : Style → Option Section → Bool → Section → Lines → List Fields
 cards_to_come style here seen part lines =
     cards_of style part (lines_by (is_section here part) seen part (before (begins section.End) lines))
 
+-- the words of the section's heading among these lines; none where the flag says that it has begun, or where there is
+-- no such heading
 abbrev pub title_by : Bool → Section → Lines → Option Fields
 title_by true part lines = None
 title_by false part lines = option_map (λ l. word_fields (bytes_of l)) (find (begins part) lines)
 
+-- the words of a section's heading that is still to come before ENDATA; none where the section has begun or has no
+-- heading
 unfoldable pub title_to_come : Bool → Section → Lines → Option Fields
 title_to_come seen part lines = title_by seen part (before (begins section.End) lines)
 
--- all cards, where these are so far
+-- the headings and data cards of a text in all: those so far, and behind them those still to come in these lines
 abbrev pub whole : SoFar → Style → Option Section → Seen → Lines → SoFar
 whole c style here seen lines =
     record {
@@ -185,7 +204,7 @@ whole c style here seen lines =
 
 -- ---- a line that is no heading
 
--- what the tests say of a line
+-- the line is no heading, and begins no section
 pub record IsPlain (l : Line (List ℕ)) : Type 0 where
   pub heading : is_heading l ≡ false
   pub begins_none : (part : Section) → begins part l ≡ false
@@ -207,6 +226,7 @@ pub data_plain : (l : Line (List ℕ)) → is_skipped (bytes_of l) ≡ false →
     IsPlain l
 data_plain l h b = plain l false true h b refl
 
+-- the cards with the fields of this line before them where the flag says that it counts, else as they are
 abbrev on_line : Style → Section → Line (List ℕ) → Bool → List Fields → List Fields
 on_line style part l counts cards = cond counts (fields_in style part (bytes_of l) ∷ cards) cards
 

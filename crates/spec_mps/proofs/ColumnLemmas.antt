@@ -32,6 +32,7 @@ use Rattle.spec_mps.proofs.SetsKept.{has_its_shape, shape_length}
 
 -- ---- the fields of a card
 
+-- a card of COLUMNS has so many fields: three or five
 abbrev IsColumnCount : ℕ → Type 0
 IsColumnCount n = (3 ≤ n) × (n ≤ 5) × (n ≢ 4)
 
@@ -49,6 +50,7 @@ counts_column : (style : Style) (fields : Fields) → has_shape (shapes_of style
 counts_column Free fields h = shape_length IsColumnCount _ fields (three, (five, tt)) h
 counts_column Fixed fields h = shape_length IsColumnCount _ fields (three, (five, tt)) h
 
+-- these texts of a card of COLUMNS name this column, and have these pairs
 pub record IsColumn (texts : List (List ℕ)) (name : Name) (pairs : Pairs) : Type 0 where
   pub column_is : (column_of texts).column ≡ name
   pub pairs_are : (column_of texts).pairs ≡ pairs
@@ -90,6 +92,7 @@ pairs_push name cards card =
 
 -- ---- names in the order of their first mention
 
+-- whether one of these cards of COLUMNS names this column
 abbrev pub is_named : Name → List Fields → Bool
 is_named name cards = list_any (λ other. same other name) (map column_on cards)
 
@@ -192,6 +195,7 @@ none_named = refl
 
 -- ---- entries
 
+-- no value of these entries is 0
 abbrev pub AreNonZero : List (ℕ × ℚ) → Type 0
 AreNonZero [] = Unit {0}
 AreNonZero (e ∷ es) = (e.1 ≢ 0ℚ) × AreNonZero es

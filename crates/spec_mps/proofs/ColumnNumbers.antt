@@ -15,14 +15,17 @@ use Rattle.spec_mps.specs.Reader.{State, same_target}
 use Rattle.spec_mps.specs.Reader.{put_entry, with_number}
 use Rattle.spec_mps.proofs.ColumnLemmas.{AreNonZero, put_non_zero, put_here, put_there}
 
+-- the number of a column at a target: its cost at the objective, its entry at a row
 abbrev pub number_at : ExactColumn → Target → ℚ
 number_at c Objective = c.cost
 number_at c (Row i) = entry_of c.entries i
 
+-- the number of the open column at a target; 0 where no column is open
 abbrev pub open_number : Option ExactColumn → Target → ℚ
 open_number None t = 0ℚ
 open_number (Some c) t = number_at c t
 
+-- the number of the state's open column at a target; 0 where no column is open
 abbrev pub open_at : State → Target → ℚ
 open_at s t = open_number s.column t
 

@@ -41,11 +41,13 @@ use Rattle.spec_mps.proofs.ColumnNumbers.{number_non_zero}
 
 -- ---- what the cards say of columns
 
+-- the column's cost and its entry in each row are the numbers that these cards of COLUMNS give it
 pub record IsSaid (view : RowView) (cards : List Fields) (c : ExactColumn) : Type 0 where
   pub numbers : (name : Name) (t : Target) → place_in view name ≡ Some t →
       IsTheNumber (texts_for name (pairs_of_column c.name cards)) (number_at c t)
 
--- of the column that cards are read of
+-- the open column has the numbers that these cards give it, and for each target without a number the cards say none; it
+-- is named on a card, and no whole column has its name
 pub record IsOpenSaid (view : RowView) (cards : List Fields)
     (columns : List ExactColumn) (paired : List Target) (c : ExactColumn) : Type 0 where
   pub said : IsSaid view cards c
@@ -55,6 +57,8 @@ pub record IsOpenSaid (view : RowView) (cards : List Fields)
   pub others : All (λ d. same d.name c.name ≡ false) columns
   pub known : is_named c.name cards ≡ true
 
+-- the state's columns are those that these cards of COLUMNS name, in order, with the numbers that the cards give them;
+-- before COLUMNS there is none, and outside it none is open
 pub record ColumnsSay (cards : List Fields) (s : State) : Type 0 where
   pub none : s.seen.columns ≡ false → (cards ≡ []) × (s.columns ≡ []) × (s.column ≡ None)
   pub shut : is_section s.part section.Columns ≡ false → s.column ≡ None
@@ -64,6 +68,8 @@ pub record ColumnsSay (cards : List Fields) (s : State) : Type 0 where
 
 -- ---- the pairs of a card
 
+-- while the pairs of a card of COLUMNS are read: the open column has this name and the numbers of the old pairs and of
+-- those done, and the whole columns are these
 record IsReading (view : RowView) (old : Pairs) (name : Name)
     (columns : List ExactColumn) (done : Pairs) (u : State) : Type 0 where
   columns_are : u.columns ≡ columns
@@ -120,7 +126,8 @@ one_pair view old name columns done s pair t p k = by
 
 -- ---- the column of a card
 
--- what holds of the columns before the card's own, as its pairs are read
+-- a card of COLUMNS has opened its column behind the whole ones, and no pair of it is read yet; all columns have the
+-- numbers that the cards say
 record IsOpened (view : RowView) (cards : List Fields) (card : Fields) (u : State) : Type 0 where
   reading : IsReading view (pairs_of_column (column_on card) cards) (column_on card) u.columns [] u
   names : map (λ c. c.name) u.columns ++ column_on card ∷ [] ≡ named_columns (cards ++ card ∷ [])

@@ -99,7 +99,7 @@ columns_before cards s t new seen columns column k =
       last = subst (λ o. IfSome o (IsOpenSaid (row_view t) cards t.columns t.paired)) (sym closed) tt;
     }
 
--- what other cards than those of ROWS and COLUMNS leave
+-- from s to t the open column stays, and the whole columns stay but for their bounds
 record ColumnsStay (s t : State) : Type 0 where
   column : t.column ≡ s.column
   columns : map without_bounds t.columns ≡ map without_bounds s.columns

@@ -16,14 +16,14 @@ use Rattle.spec_mps.specs.declared.target.Target.{Target}
 use Rattle.spec_mps.specs.declared.target.Target.TheVariants as target
 use Rattle.spec_mps.specs.Reader.{is_among, same_target, put_entry}
 
--- an entry of one of n rows, not below the row low, whose row is among those that have a number
+-- an entry that is not 0, in one of n rows that is not below `low` and is among those that have a number
 pub record IsEntry (n low : ℕ) (paired : List Target) (e : ℕ × ℚ) : Type 0 where
   pub above : low ≤ e.0
   pub inside : e.0 < n
   pub not_zero : e.1 ≢ 0ℚ
   pub known : is_among (target.Row e.0) paired ≡ true
 
--- such entries, each above the one before
+-- entries that are not 0, in strictly ascending rows from `low` on, of n rows, each of which has a number
 abbrev pub Climbs : ℕ → ℕ → List Target → List (ℕ × ℚ) → Type 0
 Climbs n low paired [] = Unit {0}
 Climbs n low paired (e ∷ es) = IsEntry n low paired e × Climbs n (suc e.0) paired es

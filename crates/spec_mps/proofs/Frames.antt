@@ -36,15 +36,20 @@ use Rattle.spec_mps.proofs.CardsDid.{ranges_did, set_keeps, BoundDid, UsedBound,
 
 -- ---- what is left of a state without what the cards of a section change
 
+-- a row with the right side 0 in place of its own
 abbrev pub without_side : ExactRow → ExactRow
 without_side r = record r { rhs = 0ℚ }
 
+-- a row without its range
 abbrev pub without_range : ExactRow → ExactRow
 without_range r = record r { range = None }
 
+-- a column without its bounds
 abbrev pub without_bounds : ExactColumn → ExactColumn
 without_bounds c = record c { lower = None; upper = None }
 
+-- a state without what the cards of this section may change: two states agree beside the section where these are the
+-- same
 abbrev pub beside : Section → State → State
 beside section.Name s = s
 beside section.Sense s = record s { sense = None }
@@ -55,7 +60,7 @@ beside section.Ranges s = record s { rows = map without_range s.rows; paired = [
 beside section.Bounds s = record s { columns = map without_bounds s.columns; lowered = []; set = None }
 beside section.End s = s
 
--- a card of this section leads from s to t
+-- t is s but for what the data cards of this section may change
 abbrev pub Leads : Section → State → State → Type 0
 Leads part s t = beside part t ≡ beside part s
 

@@ -136,6 +136,7 @@ module _ (few many : SizeLimits) (most : AreAtMost few many) where
   reading_more style s (Is c) = card_more style s c
   reading_more style s (Misplaced column) = same_check _
 
+  -- a line that the reader takes within the lesser limits leads to the same within the greater ones
   pub step_more : (style : Style) (s : State) (l : Line (List ℕ)) (p : Progress) → step few style s l ≡ Ok p →
       step many style s l ≡ Ok p
   unfolding step
@@ -152,6 +153,7 @@ module _ (few many : SizeLimits) (most : AreAtMost few many) where
       (step few style s l) (step many style s l) m (step_more style s l)
       (λ t k. judged_more style lines t (n + 1) m k) h
 
+  -- a text that spells a model within the lesser limits spells the same model within the greater ones
   pub spelled_more : (style : Style) (lines : List (Line (List ℕ))) (m : Model) → SpellsWithin few style lines m →
       SpellsWithin many style lines m
   spelled_more style lines m h = judged_more style lines start 1 m h

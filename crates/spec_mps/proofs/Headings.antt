@@ -2,8 +2,10 @@
 --
 -- `word_is`: a word that the reader takes for a section is that section's word.
 -- `heading_is`: a line with a section's word in column 1 is the heading of that section and of no other.
--- `cards_begin`: a heading makes its section the one that is here, and leaves all cards to come.
--- `title_begin`: a heading becomes its section's title, and leaves the titles of all other sections.
+-- `cards_begin`: a heading other than ENDATA makes its section, which has not begun, the one that is here, and leaves
+--   all cards to come.
+-- `title_begin`: a heading other than ENDATA becomes its section's title, where that has not begun, and leaves the
+--   titles of all other sections.
 -- `cards_end`: behind ENDATA no cards are to come.
 -- `title_end`: behind ENDATA no headings are to come.
 use Rattle.std.proofs.Common.{sym, ◌≡◌, ℕ, Bool, true, false, not, ◌&&◌, ◌||◌, cond, Option, Some}
@@ -25,6 +27,7 @@ use Rattle.spec_mps.proofs.CardsSoFar.{cards_of, cards_to_come, title_by, title_
 
 -- ---- the words of sections
 
+-- in this table of words and sections, each word is the word of its section
 abbrev AllSay : List (List ℕ × Section) → Type 0
 AllSay [] = Unit {0}
 AllSay (x ∷ xs) = (x.0 ≡ section_word x.1) × AllSay xs
@@ -47,6 +50,7 @@ word_is word part h =
 
 -- ---- a line that begins a section
 
+-- the line is the heading of this section, and of no other
 pub record IsHeading (l : Line (List ℕ)) (part : Section) : Type 0 where
   pub heading : is_heading l ≡ true
   pub begins_one : (q : Section) → begins q l ≡ is_section (Some part) q

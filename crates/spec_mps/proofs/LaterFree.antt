@@ -61,12 +61,14 @@ limited_first (r ∷ rows) = go (is_free r.0) refl (limited_first rows)
         limited_own r rows e ∙ ap (λ rows. r ∷ rows) f ∙ sym (limited_own r (but_first_free rows) e)
 
 module _ (limits : SizeLimits) (style : Style) (lines : Lines) (m : Model) (h : SpellsWithin limits style lines m) where
+  -- the names of the rows of type N on the cards of a spelled model are its objective and then its free rows, in order
   pub free_said : free_names (typed_rows (cards_in style section.Rows lines))
       ≡ m.objective ∷ free_names (map (λ r. (r.kind, r.name)) m.rows)
   free_said =
       names_first (typed_rows (cards_in style section.Rows lines)) m.objective (objective_said limits style lines m h)
       ∙ ap (λ (rows : Labels). m.objective ∷ free_names rows) (rows_said limits style lines m h)
 
+  -- the rows of other types than N on the cards of a spelled model are its rows of other types, in order
   pub limited_said : limited (typed_rows (cards_in style section.Rows lines))
       ≡ limited (map (λ r. (r.kind, r.name)) m.rows)
   limited_said =

@@ -1,10 +1,12 @@
 -- When a number is between the limits of a row, by the row's kind, right side and range.
 --
--- `at_most`: in a row of type L a number is between the limits if and only if it is at most the right side.
+-- `at_most`: in a row of type L without a range a number is between the limits if and only if it is at most the right
+--   side.
 -- `at_most_from`: in a row of type L with a range q it is between the right side less the size of q and the right side.
--- `at_least`: in a row of type G a number is between the limits if and only if it is at least the right side.
+-- `at_least`: in a row of type G without a range a number is between the limits if and only if it is at least the
+--   right side.
 -- `at_least_to`: in a row of type G with a range q it is between the right side and that plus the size of q.
--- `equal`: in a row of type E a number is between the limits if and only if it is the right side.
+-- `equal`: in a row of type E without a range a number is between the limits if and only if it is the right side.
 -- `equal_up_to`: in a row of type E a range of 0 or more reaches up from the right side.
 -- `equal_down_to`: in a row of type E a range below 0 reaches down from the right side.
 -- `free`: in a row of type N each number is between the limits.
@@ -27,12 +29,15 @@ by_limits : (r : ExactRow) (kind : Kind) (range : Option ℚ) (l : Limits) (v : 
     r.range ≡ range → l ≡ limits_by kind r.rhs range → (IsBetween l v ↔ A) → IsBetween (limits_of r) v ↔ A
 by_limits r kind range l v A k e h f = subst (λ x. IsBetween x v ↔ A) (h ∙ limits_are r kind range k e) f
 
+-- no lower limit, and b as the upper one
 abbrev up_to : ℚ → Limits
 up_to b = record { lower = None; upper = Some b }
 
+-- b as the lower limit, and no upper one
 abbrev from_on : ℚ → Limits
 from_on b = record { lower = Some b; upper = None }
 
+-- a as the lower limit and b as the upper one
 abbrev from_to : ℚ → ℚ → Limits
 from_to a b = record { lower = Some a; upper = Some b }
 

@@ -25,7 +25,7 @@ use Rattle.spec_mps.proofs.CheckSteps.{same_ok}
 use Rattle.spec_mps.proofs.BoundsSet.{SetsAll}
 use Rattle.spec_mps.proofs.NarrowNumbers.{number_narrow}
 
--- the offset, the rows, the columns that are whole, and the one that cards are read of
+-- the offset, and all numbers of the rows, of the whole columns and of the open one, are within 127 bits
 pub record AreNarrow (o : ℚ) (rs : List ExactRow) (cs : List ExactColumn) (c : Option ExactColumn) : Type 0 where
   pub offset : IsNarrow o
   pub rows : All IsNarrowRow rs
@@ -108,6 +108,7 @@ bounded_narrow lowered (SetsBoth l u) c n k = record { cost = k.cost; lower = n.
 -- what a card changes of these numbers
 module _ (offset : ℚ) (rows : List ExactRow) (columns : List ExactColumn)
     (column : Option ExactColumn) (h : AreNarrow offset rows columns column) where
+  -- numbers of at most 127 bits stay so with one more row, whose right side is 0 and which has no range
   pub more_narrow : (kind : Kind) (name : Name) → AreNarrow offset (rows ++ new_row kind name ∷ []) columns column
   more_narrow kind name =
       record {
@@ -117,6 +118,7 @@ module _ (offset : ℚ) (rows : List ExactRow) (columns : List ExactColumn)
         column = h.column;
       }
 
+  -- numbers of at most 127 bits stay so where the open column joins the whole ones
   pub closed_narrow : AreNarrow offset rows (columns_with columns column) None
   closed_narrow =
       record {
@@ -126,6 +128,7 @@ module _ (offset : ℚ) (rows : List ExactRow) (columns : List ExactColumn)
         column = tt;
       }
 
+  -- numbers of at most 127 bits stay so where a new column is opened and the open one joins the whole ones
   pub new_narrow : (name : Name) → AreNarrow offset rows (columns_with columns column) (Some (new_column name))
   new_narrow name =
       let none : All (λ (e : ℕ × ℚ). IsNarrow e.1) [] = All-nil (λ (e : ℕ × ℚ). IsNarrow e.1) in
@@ -136,14 +139,17 @@ module _ (offset : ℚ) (rows : List ExactRow) (columns : List ExactColumn)
         column = record { cost = zero_narrow; lower = zero_narrow; upper = tt; entries = none };
       }
 
+  -- numbers of at most 127 bits stay so where the open column takes a number of at most 127 bits
   pub entered_narrow : (t : Target) (v : ℚ) → IsNarrow v →
       AreNarrow offset rows columns (option_map (λ c. with_number c t v) column)
   entered_narrow t v n =
       record { offset = h.offset; rows = h.rows; columns = h.columns; column = last_narrow column t v n h.column }
 
+  -- numbers of at most 127 bits stay so with another offset of at most 127 bits
   pub offset_narrow : (q : ℚ) → IsNarrow q → AreNarrow q rows columns column
   offset_narrow q n = record { offset = n; rows = h.rows; columns = h.columns; column = h.column }
 
+  -- numbers of at most 127 bits stay so where a change that keeps rows so is made to one row
   pub row_narrow : (i : ℕ) (change : ExactRow → ExactRow) →
       ((r : ExactRow) → IsNarrowRow r → IsNarrowRow (change r)) →
       AreNarrow offset (changed_at i change rows) columns column
@@ -155,6 +161,7 @@ module _ (offset : ℚ) (rows : List ExactRow) (columns : List ExactColumn)
         column = h.column;
       }
 
+  -- numbers of at most 127 bits stay so where a card whose bounds are so changes the bounds of one column
   pub bounds_narrow : (place : ℕ) (lowered : Bool) (card : BoundCard) → SetsAll IsNarrow card →
       AreNarrow offset rows (changed_at place (bounded lowered card) columns) column
   bounds_narrow place lowered card n =

@@ -56,6 +56,8 @@ all_limited (r ∷ rows) = go (is_free r.0) refl (all_limited rows)
 
 module _ (limits : SizeLimits) (style : Style) (lines : Lines) (m : Model) (h : SpellsWithin limits style lines m)
     (one : free_names (typed_rows (cards_in style section.Rows lines)) ≡ m.objective ∷ []) where
+  -- where the objective alone is of type N, the rows of a spelled model are those of the other types on the cards, in
+  -- order
   pub rows_limited : map (λ r. (r.kind, r.name)) m.rows ≡ limited (typed_rows (cards_in style section.Rows lines))
   rows_limited = sym (rows_said limits style lines m h) ∙ one_free (typed_rows (cards_in style section.Rows lines))
       m.objective one
@@ -67,6 +69,8 @@ module _ (limits : SizeLimits) (style : Style) (lines : Lines) (m : Model) (h : 
       (all_limited (typed_rows (cards_in style section.Rows lines))) i (no_row.kind, no_row.name)
       (omega (arith, l, length-map m.rows (λ (r : ExactRow). (let x : Kind × Name = (r.kind, r.name) in x))))
 
+  -- where the objective alone is of type N, the range of each row of a spelled model is what the cards of RANGES give
+  -- its name
   pub ranges_all : (i : ℕ) → i < height m →
       IsTheRange (texts_for (row m i).name (used_pairs (cards_in style section.Ranges lines))) (row m i).range
   ranges_all i l = range_said limits style lines m h i l (row_limited i l)

@@ -41,7 +41,7 @@ use Rattle.spec_mps.proofs.SetSections.{set_cards, cards_first, cards_titled, ca
 
 -- ---- numbers of targets
 
--- that of the objective by the offset, and that of a row by the row
+-- the number of a target in a state: of the objective what the offset gives, of a row what the row gives
 abbrev pub number_at : {V : Type 0} → (ℚ → V) → (ExactRow → V) → State → Target → V
 number_at of_offset of_row s Objective = of_offset s.offset
 number_at of_offset of_row s (Row i) = of_row (get_or s.rows i no_row)
@@ -72,6 +72,7 @@ row_inside s name i h =
     let l : i < length (labels s.rows) = (place_name (row_view s) name (Row i) (sym (place_by_view s name) ∙ h)).1 in
     omega (arith, many_labels s.rows)
 
+-- a row's kind and name
 abbrev label_of : ExactRow → Kind × Name
 label_of r = (r.kind, r.name)
 
@@ -123,6 +124,8 @@ row_counts counted s i = ap (λ (x : Kind × Name). counted x.0) (get_or-map lab
 
 -- ---- a section whose cards give numbers
 
+-- how the pairs of RHS or RANGES give numbers to targets: a text gives its number, without one the number is the usual
+-- one, a pair puts its number at its target alone, and cards of other sections leave all numbers
 pub record GivesNumbers (V : Type 0) (of_offset : ℚ → V) (of_row : ExactRow → V)
     (IsNumber : List (List ℕ) → V → Type 0) (counted : Kind → Bool) (of_number : ℚ → V) (sets : Sets) : Type 0 where
   pub one : (text : List ℕ) (v : ℚ) → number_of text ≡ Is v → IsNumber (text ∷ []) (of_number v)
@@ -134,6 +137,8 @@ pub record GivesNumbers (V : Type 0) (of_offset : ℚ → V) (of_row : ExactRow 
       is_section (Some p) (part_of sets) ≡ false → Leads p s t → (x : Target) →
       number_at of_offset of_row t x ≡ number_at of_offset of_row s x
 
+-- while the pairs of a card of RHS or RANGES are read: the numbers of targets are what the old pairs and those done
+-- say, and the set is in use
 record Reads (V : Type 0) (value_of : State → Target → V) (IsNumber : List (List ℕ) → V → Type 0)
     (counted : Kind → Bool) (view : RowView) (old : Pairs) (set : Option Name) (done : Pairs) (u : State) : Type 0 where
   tells : Tells V value_of IsNumber counted view (old ++ done) u
@@ -304,7 +309,8 @@ module _ {V : Type 0} {of_offset : ℚ → V} {of_row : ExactRow → V} {IsNumbe
       no_place : {x : Target} → None ≡ Some x → ⊥
       no_place e = cc
 
-  -- with the names of rows
+  -- after each card and heading the rows are what the cards of ROWS say, and the numbers of targets what those of RHS
+  -- or RANGES say
   numbers_kept : (limits : SizeLimits) (style : Style) →
       IsKept limits style (λ c s. RowsSay c.rows (row_view s) × NumbersSay (set_cards sets c) s)
   numbers_kept limits style =
@@ -322,6 +328,7 @@ module _ {V : Type 0} {of_offset : ℚ → V} {of_row : ExactRow → V} {IsNumbe
 
   -- ---- the model
 
+  -- the number of each row of a spelled model, if its kind counts, is what the cards of RHS or RANGES give its name
   pub row_said : (limits : SizeLimits) (style : Style) (lines : Lines) (m : Model) → SpellsWithin limits style lines m →
       (i : ℕ) → i < height m →
       counted (row m i).kind ≡ true →
@@ -336,6 +343,7 @@ module _ {V : Type 0} {of_offset : ℚ → V} {of_row : ExactRow → V} {IsNumbe
       (λ i l n. k.numbers (get_or e.last.rows i no_row).name (Row i)
       (row_place e.last i e.holds.0.placed l, row_counts counted e.last i ∙ n))
 
+  -- what the offset of a spelled model stands for is what the cards of RHS or RANGES give the objective
   pub objective_said : (limits : SizeLimits) (style : Style) (lines : Lines) (m : Model) →
       SpellsWithin limits style lines m →
       IsNumber (texts_for m.objective (used_pairs (cards_in style (part_of sets) lines))) (of_offset m.offset)

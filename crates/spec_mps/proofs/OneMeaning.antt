@@ -36,7 +36,7 @@ use Rattle.spec_mps.proofs.SidesKept.{right_side_said, offset_said}
 use Rattle.spec_mps.proofs.RangesKept.{range_by_kind}
 use Rattle.spec_mps.proofs.BoundsSaid.{bounds_said}
 
--- what a text spells, it means
+-- a text means the model that it spells, whatever the limits of size are
 pub spelled_means : (limits : SizeLimits) (style : Style) (lines : Lines) (m : Model) →
     SpellsWithin limits style lines m → Means style lines m
 spelled_means limits style lines m h =
@@ -277,6 +277,7 @@ module _ (style : Style) (lines : Lines) (m o : Model) (h : Means style lines m)
       let entries = entries_at a b j l in
       λ i. record { name = name_at j i; cost = cost i; lower = lower i; upper = upper i; entries = entries i }
 
+  -- two models that may be kept, and that one text means, are the same
   pub one_meaning : IsModel m → IsModel o → m ≡ o
   one_meaning a b =
       let offset =

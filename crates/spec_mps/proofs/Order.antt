@@ -3,7 +3,8 @@
 -- `start_ordered`: before the first line the sections are in order.
 -- `one_more`: the sections that have begun are, after one more, those from before and that one.
 -- `not_both`: a test that is both true and false gives anything.
--- `begun_ordered`: sections in order stay so where a section begins that may follow and has not begun before.
+-- `begun_ordered`: sections in order stay so where a section other than ENDATA begins that may follow and has not
+--   begun before.
 -- `step_did`: a line that the reader takes is skipped, is a data card of the section here, or is a heading.
 use Rattle.std.proofs.Common.{◌≡◌, ℕ, Bool, true, false, ◌||◌, cond, Option, Some, None, Ok, List, refl, ◌∙◌, subst}
 use Rattle.std.proofs.lemmas.Bool.{or_left}
@@ -28,12 +29,13 @@ use Rattle.spec_mps.proofs.CardsSoFar.{is_section}
 
 -- ---- the order of sections
 
+-- none of RHS, RANGES and BOUNDS has begun
 pub record HasNoEnds (seen : Seen) : Type 0 where
   pub right_sides : seen.right_sides ≡ false
   pub ranges : seen.ranges ≡ false
   pub bounds : seen.bounds ≡ false
 
--- the section that is here has begun
+-- the section that is here, if it has data cards, has begun
 pub record IsTold (here : Option Section) (seen : Seen) : Type 0 where
   pub senses : is_section here section.Sense ≡ true → seen.sense ≡ true
   pub rows : is_section here section.Rows ≡ true → seen.rows ≡ true
@@ -42,6 +44,8 @@ pub record IsTold (here : Option Section) (seen : Seen) : Type 0 where
   pub ranges : is_section here section.Ranges ≡ true → seen.ranges ≡ true
   pub bounds : is_section here section.Bounds ≡ true → seen.bounds ≡ true
 
+-- the sections that have begun, and the one that is here, are in order: no COLUMNS without ROWS, and no RHS, RANGES or
+-- BOUNDS without COLUMNS or while COLUMNS is here
 pub record IsOrdered (here : Option Section) (seen : Seen) : Type 0 where
   pub told : IsTold here seen
   pub columns_later : seen.rows ≡ false → seen.columns ≡ false
@@ -67,7 +71,7 @@ start_ordered =
       at_columns = λ h. record { right_sides = refl; ranges = refl; bounds = refl };
     }
 
--- the sections that have begun after one more
+-- the sections that have begun, and this one more
 abbrev pub with_one : Seen → Section → Seen
 with_one seen part =
     record {
@@ -174,6 +178,7 @@ begun_ordered here section.End seen may new e o = absurd (cc)
 
 -- ---- what a line did
 
+-- the line was read as a data card of the section that is here, which leads from s to the next state
 pub record DataDid (limits : SizeLimits) (style : Style) (s : State) (bytes : List ℕ) (p : Progress) : Type 0 where
   pub part : Section
   pub next : State
@@ -181,6 +186,7 @@ pub record DataDid (limits : SizeLimits) (style : Style) (s : State) (bytes : Li
   pub did : data_card limits style (Some part) s (fields_in style part bytes) ≡ Ok next
   pub goes : More next ≡ p
 
+-- what a line did from s: it was skipped, was a data card of the section that is here, or was a heading
 pub data LineDid (limits : SizeLimits) (style : Style) (s : State) (bytes : List ℕ) (p : Progress) : Type 0 where
   Skipped : (skipped : is_skipped bytes ≡ true) → (same : More s ≡ p) → LineDid limits style s bytes p
   Data : (kept : is_skipped bytes ≡ false) → (blank : begins_with_blank bytes ≡ true) →

@@ -86,7 +86,8 @@ same_target_itself (Row i) = eq-eqb i i refl
 
 -- ---- one pair
 
--- what a number at a target did to the values of targets: nothing, where the target is of a kind that does not count
+-- what a number v at target x did from u to w: nothing, where x is a row of a kind that does not count; else x has the
+-- value v and is noted, and all other targets keep their values
 pub data Put (V : Type 0) (value_of : State → Target → V) (counted : Kind → Bool)
     (u : State) (x : Target) (v : V) (w : State) : Type 0 where
   PutNowhere : (off : counts counted (row_view u) x ≡ false) → (same : u ≡ w) → Put V value_of counted u x v w
@@ -95,7 +96,8 @@ pub data Put (V : Type 0) (value_of : State → Target → V) (counted : Kind �
       (elsewhere : (t : Target) → same_target t x ≡ false → value_of w t ≡ value_of u t) →
       Put V value_of counted u x v w
 
--- the values of targets that count are what these pairs say
+-- the value of each target that counts is what these pairs say for its name, and the pairs say nothing for a target
+-- that is not noted
 pub record Tells (V : Type 0) (value_of : State → Target → V) (IsNumber : List (List ℕ) → V → Type 0)
     (counted : Kind → Bool) (view : RowView) (pairs : Pairs) (u : State) : Type 0 where
   pub view_is : row_view u ≡ view
@@ -113,11 +115,11 @@ module _ {V : Type 0} {value_of : State → Target → V} {IsNumber : List (List
     (view : RowView) (pairs : Pairs) (u w : State) (pair : List ℕ × List ℕ)
     (x : Target) (v : V) (at : place_in view pair.0 ≡ Some x)
     (one : IsNumber (pair.1 ∷ []) v) (k : Tells V value_of IsNumber counted view pairs u) where
-  -- the pair's name stands for its target alone
+  -- a target that the pair's name stands for is the pair's target
   own_target : (name : Name) (t : Target) → place_in view name ≡ Some t → same pair.0 name ≡ true → t ≡ x
   own_target name t h f = one_target view name t x h (ap (place_in view) (sym (same_true pair.0 name f)) ∙ at)
 
-  -- a name of another target than the pair's
+  -- a name that stands for another target than the pair's name does is another name
   other_name : (name : Name) (t : Target) → place_in view name ≡ Some t → same_target t x ≡ false →
       same pair.0 name ≡ false
   other_name name t h ne = by (same pair.0 name) refl
@@ -128,7 +130,7 @@ module _ {V : Type 0} {value_of : State → Target → V} {IsNumber : List (List
           (ap (λ y. same_target t y) (sym (own_target name t h f)) ∙ same_target_itself t) ne
       by false f = refl
 
-  -- the pair's own name
+  -- a name that stands for the target of the pair's name is the pair's name
   own_name : (name : Name) (t : Target) → place_in view name ≡ Some t → t ≡ x → same pair.0 name ≡ true
   own_name name t h same_t =
       ap (λ n. same n name) (one_name view pair.0 name t (at ∙ ap (λ y. Some y) (sym same_t)) h) ∙ same-refl name
@@ -174,6 +176,8 @@ module _ {V : Type 0} {value_of : State → Target → V} {IsNumber : List (List
           not_both (counts counted view t) h.1 (ap (counts counted view) (own_target name t h.0 f) ∙ off)
       differs name t h false f = refl
 
+  -- where the values of targets are what some pairs say, they are what these and one more pair say after its number was
+  -- put at its target
   pub tells_push : Put V value_of counted u x v w → Tells V value_of IsNumber counted view (pairs ++ pair ∷ []) w
   tells_push (PutNowhere off same) =
       subst (Tells V value_of IsNumber counted view (pairs ++ pair ∷ [])) same

@@ -43,7 +43,7 @@ cut_value negative (suc s) z n (pos k) h w q =
     (ap (λ m. Is (whole (signed negative m))) (ap (λ m. suc s * 10 ^ m) same ∙ h)
     ∙ ap Is (sym (over-one (signed negative n))))
 
--- digits that spell n, no more than zeros may be, are read as n with its sign
+-- at most 16,384 digits that spell n are read as n with this sign
 digits_value : (negative : Bool) (digits : List ℕ) (n : ℕ) → spelled digits ≡ n → length digits ≤ most_zeros →
     wide_by (Some (scaled negative digits [] (pos 0))) ≡ Is (over (signed negative n) 1)
 unfolding scaled
@@ -54,7 +54,7 @@ digits_value negative digits n e w =
     ap (λ ds. wide_by (Some (Decimal negative (spelled (without_zeros ds)) (pos 0 +ℤ pos (length digits) -ℤ pos (length (without_zeros ds)))))) back
     ∙ cut_value negative (spelled (without_zeros digits)) c.zeros n _ (sym c.size ∙ e) (omega (arith, l, w)) (omega (arith, ints, l))
 
--- digits alone that spell n are read at any width as n with its sign
+-- at most 16,384 digits alone that spell n are read at any width as n with this sign
 read_plain : (negative : Bool) (digits : List ℕ) (n : ℕ) → list_all is_ascii_digit digits ≡ true → 0 < length digits →
     spelled digits ≡ n → length digits ≤ most_zeros →
     wide_by (unsigned_parts negative (before_first is_slash digits) (behind is_slash digits))
@@ -78,7 +78,7 @@ read_plain negative digits n h k e w =
 
 -- ---- a quotient
 
--- digits, a slash and digits are read at any width as their quotient
+-- digits, a slash and digits that do not spell 0 are read at any width as their quotient
 read_quotient : (negative : Bool) (top bottom : List ℕ) (n den : ℕ) → list_all is_ascii_digit top ≡ true →
     list_all is_ascii_digit bottom ≡ true → 0 < length top → 0 < length bottom → spelled top ≡ n →
     spelled bottom ≡ den → 0 < den →
@@ -91,6 +91,7 @@ read_quotient negative top bottom n den h g k m e f p =
 
 -- ---- after a sign
 
+-- the text with a minus before it where the flag is true, else as it is
 abbrev signed_text : Bool → List ℕ → List ℕ
 signed_text negative body = cond negative (45 ∷ []) [] ++ body
 
@@ -116,7 +117,7 @@ off_all : (negative : Bool) (digits : List ℕ) → list_all is_ascii_digit digi
 off_all negative [] h k = absurd (omega arith)
 off_all negative (b ∷ digits) h k = sign_off negative b digits (and_parts _ _ h).0
 
--- the signed text of n / den, if not too long, is read at any width as that number
+-- the signed text of n / den with all digits, of at most 16,384 bytes, is read at any width as that number
 as_past : (negative : Bool) (n den : ℕ) → 0 < den → length (past_text n den) ≤ most_zeros →
     wide_of (signed_text negative (past_text n den)) ≡ Is (over (signed negative n) den)
 unfolding past_text
@@ -142,6 +143,7 @@ as_past negative n den p w = by (eqb den 1) refl w
 within_is : (q : ℚ) → IsNarrow q → is_within q ≡ true
 within_is q n = and_from _ _ (le-leb _ _ n.top) (le-leb _ _ n.bottom)
 
+-- the text of a number: that within 127 bits where the flag is true, else a sign and all digits
 abbrev by_width : ℚ → Bool → List ℕ
 by_width q narrow = cond narrow (number_text q) (signed_text (int_lt q.num (pos 0)) (past_text (unsigned_abs q.num) q.den))
 
@@ -152,7 +154,7 @@ text_is q narrow e = ap (by_width q) e
 pub same_text : (q : ℚ) → IsNarrow q → wide_text q ≡ number_text q
 same_text q n = text_is q true (within_is q n)
 
--- the text of z / den, if not too long, is read at any width as that number
+-- the text of z / den with all digits, of at most 16,384 bytes, is read at any width as that number
 signed_past : (z : ℤ) (den : ℕ) → 0 < den →
     length (signed_text (int_lt z (pos 0)) (past_text (unsigned_abs z) den)) ≤ most_zeros →
     wide_of (signed_text (int_lt z (pos 0)) (past_text (unsigned_abs z) den)) ≡ Is (over z den)

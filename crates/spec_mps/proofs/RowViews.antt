@@ -37,13 +37,16 @@ use Rattle.spec_mps.proofs.CardRuns.{headed_leads}
 
 -- ---- kinds and names
 
+-- what names stand for, as far as it matters: the objective's name, if it was read, and the rows' kinds and names
 pub record RowView : Type 0 where
   pub objective : Option Name
   pub rows : List (Kind × Name)
 
+-- the kinds and names of rows, in order
 abbrev pub labels : List ExactRow → List (Kind × Name)
 labels rows = map (λ r. (r.kind, r.name)) rows
 
+-- the objective's name and the rows' kinds and names of a state
 abbrev pub row_view : State → RowView
 row_view s = record { objective = s.objective; rows = labels s.rows }
 
@@ -80,6 +83,7 @@ rows_stay_headed s part word t h = ap row_view (headed_leads (begun s part) part
 
 -- ---- what a name stands for
 
+-- what a name stands for: the objective, or a row by its number; none for an unknown name
 abbrev pub place_in : RowView → Name → Option Target
 place_in v name =
     cond (is_objective v.objective name) (Some Objective) (row_at (position (λ r. same r.1 name) v.rows))
@@ -102,13 +106,16 @@ place_by_view s name =
 
 -- ---- the name of a target
 
+-- a kind and a name that stand in where there is no row: L and no bytes
 abbrev pub no_label : Kind × Name
 no_label = (L, [])
 
+-- the name of a target: that of the objective, if there is one, or of the row
 abbrev pub name_in : RowView → Target → Option Name
 name_in v Objective = v.objective
 name_in v (Row i) = Some (get_or v.rows i no_label).1
 
+-- the target is the objective or one of the rows
 abbrev pub IsIn : RowView → Target → Type 0
 IsIn v Objective = Unit {0}
 IsIn v (Row i) = i < length v.rows
@@ -151,11 +158,12 @@ objective_place v name h =
 
 -- ---- the targets that count
 
--- those of the kinds that count, and the objective
+-- whether a target counts: the objective does, and each row whose kind passes the test
 abbrev pub counts : (Kind → Bool) → RowView → Target → Bool
 counts counted v Objective = true
 counts counted v (Row i) = counted (get_or v.rows i no_label).0
 
+-- the test that each kind of rows passes
 abbrev pub every_kind : Kind → Bool
 every_kind kind = true
 
@@ -163,12 +171,13 @@ pub all_count : (v : RowView) (t : Target) → counts every_kind v t ≡ true
 all_count v Objective = refl
 all_count v (Row i) = refl
 
--- a name stands for a target that counts
+-- the name stands for this target, and the target counts
 abbrev pub StandsFor : (Kind → Bool) → RowView → Name → Target → Type 0
 StandsFor counted v name t = (place_in v name ≡ Some t) × (counts counted v t ≡ true)
 
 -- ---- each row's name stands for it
 
+-- the name of each row stands for that row
 pub record IsPlaced (v : RowView) : Type 0 where
   pub place : (i : ℕ) → i < length v.rows → place_in v (get_or v.rows i no_label).1 ≡ Some (Row i)
 

@@ -36,7 +36,7 @@ use Rattle.spec_mps.proofs.RowViews.{RowView, labels, many_labels, row_view, row
 use Rattle.spec_mps.proofs.RowViews.{rows_stay_headed, place_in, place_by_view, no_label, IsPlaced}
 use Rattle.spec_mps.proofs.RowViews.{placed_objective, placed_row, placed_new}
 
--- what the cards say is what a state has
+-- the objective is the first row of type N on these cards, the rows are all others, and each row's name stands for it
 pub record RowsSay (cards : List Fields) (v : RowView) : Type 0 where
   pub objective_is : first_free (typed_rows cards) ≡ v.objective
   pub rows_are : but_first_free (typed_rows cards) ≡ v.rows

@@ -52,6 +52,7 @@ part_now Ranges seen = refl
 
 -- ---- its cards
 
+-- the cards of RHS or of RANGES that were read so far
 abbrev pub set_cards : Sets → SoFar → List Fields
 set_cards Sides c = c.right_sides
 set_cards Ranges c = c.ranges

@@ -16,15 +16,17 @@ use Rattle.spec_mps.specs.Reader.{State, in_turn}
 use Rattle.spec_mps.specs.Sides.{if_used, set_card, side_pair, range_pair, rhs_by, ranges_by, rhs_card, ranges_card}
 use Rattle.spec_mps.specs.Steps.{data_card}
 
+-- one of the two sections whose cards have sets and pairs: RHS or RANGES
 pub data Sets : Type 0 where
   Sides : Sets
   Ranges : Sets
 
+-- the section: RHS or RANGES
 abbrev pub part_of : Sets → Section
 part_of Sides = section.RightSides
 part_of Ranges = section.Ranges
 
--- what a pair does
+-- the state after a pair of a name and a number's text: of RHS, or of RANGES
 abbrev pub pair_of : Sets → State → Name → List ℕ → Check State
 pair_of Sides = side_pair
 pair_of Ranges = range_pair

@@ -5,7 +5,7 @@
 -- `side_is`: the set and the pairs of a card of RHS or RANGES are those that the reader takes.
 -- `same_set_itself`: a set, or the absent one, is the same as itself.
 -- `same_set_true`: two sets that pass the reader's test are equal.
--- `same_as`: the test of equal sets here is that of the reader.
+-- `same_as`: of two sets `is_same_set`, by which a text's meaning is defined, says what the reader's `same_set` says.
 -- `used_push`: one more card adds its pairs to those of the set in use, if it is of that set.
 -- `says_skipped`: after a card of another set the numbers are still what the cards that were read say.
 use Rattle.std.proofs.Common.{◌≡◌, ℕ, suc, ◌≤◌, Bool, true, false, ◌||◌, cond, Option, Some, None, Ok, Err, List, []}
@@ -44,6 +44,7 @@ has_its_shape style part fields texts h = go (has_shape (shapes_of style part) f
     go true k = refl
     go false k = absurd (cc)
 
+-- the property holds of the length of each of these lists
 abbrev pub AllLengths : (ℕ → Type 0) → List (List ℕ) → Type 0
 AllLengths P [] = Unit {0}
 AllLengths P (x ∷ xs) = P (length x) × AllLengths P xs
@@ -70,6 +71,7 @@ shape_length P shapes fields a h =
     many [] = refl
     many (f ∷ fs) = ap suc (many fs)
 
+-- a card of RHS or RANGES has so many fields: two to five
 abbrev IsSideCount : ℕ → Type 0
 IsSideCount n = (2 ≤ n) × (n ≤ 5)
 
@@ -113,6 +115,7 @@ side_is sets style fields texts h =
 
 -- ---- the set of the first card
 
+-- the set of the first of these cards of RHS or RANGES, which may be absent; none where there is no card
 abbrev pub first_set : List Fields → Option (Option Name)
 first_set [] = None
 first_set (card ∷ cards) = Some (set_on card)
@@ -179,12 +182,15 @@ used_none = refl
 
 -- ---- what the cards of such a section say
 
--- while its cards are read
+-- while cards of the section are read, the set in use is that of the first card, and the cards say nothing for a target
+-- that is not noted
 pub record IsDuring (counted : Kind → Bool) (cards : List Fields) (s : State) : Type 0 where
   pub set : s.set ≡ first_set cards
   pub unpaired : (name : Name) (t : Target) → StandsFor counted (row_view s) name t → is_among t s.paired ≡ false →
       texts_for name (used_pairs cards) ≡ []
 
+-- the numbers of targets that count are what the cards of this section say that were read; before it begins there are
+-- no cards, and while it is read its set and its targets are noted
 pub record Says (V : Type 0) (value_of : State → Target → V) (IsNumber : List (List ℕ) → V → Type 0)
     (counted : Kind → Bool) (part : Section) (seen_of : Seen → Bool) (cards : List Fields) (s : State) : Type 0 where
   pub none : seen_of s.seen ≡ false → (cards ≡ []) × ((t : Target) → IsNumber [] (value_of s t))
@@ -195,7 +201,7 @@ pub record Says (V : Type 0) (value_of : State → Target → V) (IsNumber : Lis
 module _ {V : Type 0} (value_of : State → Target → V) (IsNumber : List (List ℕ) → V → Type 0)
     (counted : Kind → Bool) (part : Section) (seen_of : Seen → Bool) (cards : List Fields)
     (s t : State) (k : Says V value_of IsNumber counted part seen_of cards s) where
-  -- where neither the rows nor the values change
+  -- outside the section, where neither the rows nor the values change, the numbers are still what the cards say
   pub says_same : seen_of t.seen ≡ seen_of s.seen → row_view t ≡ row_view s →
       ((x : Target) → value_of t x ≡ value_of s x) → is_section t.part part ≡ false →
       Says V value_of IsNumber counted part seen_of cards t
@@ -208,7 +214,7 @@ module _ {V : Type 0} (value_of : State → Target → V) (IsNumber : List (List
         during = λ h. not_both (is_section t.part part) h away;
       }
 
-  -- before the section
+  -- before the section begins, where each value is the one without a text, the numbers are what no cards say
   pub says_before : seen_of s.seen ≡ false → seen_of t.seen ≡ seen_of s.seen →
       ((x : Target) → IsNumber [] (value_of t x)) → is_section t.part part ≡ false →
       Says V value_of IsNumber counted part seen_of cards t
@@ -223,7 +229,7 @@ module _ {V : Type 0} (value_of : State → Target → V) (IsNumber : List (List
         during = λ h. not_both (is_section t.part part) h away;
       }
 
-  -- as it begins
+  -- as the section begins, with no set and no card yet, the numbers are what the cards say
   pub says_begun : seen_of s.seen ≡ false → seen_of t.seen ≡ true → row_view t ≡ row_view s →
       ((x : Target) → value_of t x ≡ value_of s x) → t.set ≡ None → Says V value_of IsNumber counted part seen_of cards t
   says_begun new seen view value set =
@@ -236,7 +242,8 @@ module _ {V : Type 0} (value_of : State → Target → V) (IsNumber : List (List
         during = λ h. record { set = set ∙ ap first_set (sym n.0); unpaired = λ name x g free. nothing name };
       }
 
-  -- a card of the set that is used
+  -- after a card of the set in use, where the values are what the old pairs and its own say, the numbers are what the
+  -- cards with this one say
   pub says_used : (card : Fields) → seen_of t.seen ≡ true → is_used (first_set cards) (set_on card) ≡ true →
       t.set ≡ Some (set_on card) → Tells V value_of IsNumber counted (row_view s) (used_pairs cards ++ pairs_on card) t →
       Says V value_of IsNumber counted part seen_of (cards ++ card ∷ []) t

@@ -53,6 +53,7 @@ use Rattle.spec_mps.proofs.SoundRows.{SoundRows, with_objective, push_row}
 use Rattle.spec_mps.proofs.SoundColumns.{SoundColumns, IsInside, more_rows}
 use Rattle.spec_mps.proofs.SoundColumns.{more_paired, closed, with_new, with_pair, with_bounds}
 
+-- the names of rows, in order
 abbrev pub row_names : List ExactRow → List Name
 row_names rows = map (λ r. r.name) rows
 
@@ -60,7 +61,8 @@ row_names rows = map (λ r. r.name) rows
 abbrev pub HasFitRange : ExactRow → Type 0
 HasFitRange r = FitsKind r.kind r.range
 
--- what was read is sound
+-- what was read is as a model has it that may be kept within the limits: its names, rows and columns, and numbers
+-- within 127 bits
 pub record IsSound (limits : SizeLimits) (s : State) : Type 0 where
   pub rows : SoundRows limits s.name s.objective (row_names s.rows)
   pub fit : All HasFitRange s.rows

@@ -7,7 +7,8 @@
 -- `closed`: columns stay sound where the open column joins the whole ones.
 -- `with_new`: sound columns stay sound with a new open column that has a valid name, other than theirs, and room.
 -- `number_name`: setting a number of a column leaves the column's name.
--- `with_pair`: columns stay sound where the open column gets the number of an existing row that had none.
+-- `with_pair`: columns stay sound where the open column gets the number of the objective or of an existing row that
+--   had none.
 -- `bounded_name`: setting bounds of a column leaves the column's name.
 -- `with_bounds`: columns stay sound where a card with finite bounds below 10^20 in size changes one of them.
 use Rattle.std.proofs.Common.{◌≡◌, ◌≢◌, ℕ, zero, suc, ◌<◌, ◌≤◌, Bool, true, false, ◌&&◌, not, cond}
@@ -33,17 +34,19 @@ use Rattle.spec_mps.proofs.BoundsSet.{SetsAll}
 use Rattle.spec_mps.proofs.NarrowSoFar.{changed_all}
 use Rattle.spec_mps.proofs.Entries.{Climbs, climbs_more, climbs_higher, climbs_put, climbs_entries}
 
+-- the names of columns, in order
 abbrev pub column_names : List ExactColumn → List Name
 column_names columns = map (λ c. c.name) columns
 
--- the column that cards are read of, whose numbers are those of `paired`
+-- the open column has a valid name, valid bounds, and entries in ascending ones of n rows, which are noted in `paired`
 pub record IsOpen (n : ℕ) (paired : List Target) (c : ExactColumn) : Type 0 where
   pub name : IsTrue (is_name c.name)
   pub lower : IsBound c.lower
   pub upper : IsBound c.upper
   pub entries : Climbs n 0 paired c.entries
 
--- columns over n rows
+-- all columns, over n rows, are no more than the limit and have distinct names; each whole one is as a kept model has
+-- it, and the open one has valid parts
 pub record SoundColumns (limits : SizeLimits) (n : ℕ) (columns : List ExactColumn)
     (column : Option ExactColumn) (paired : List Target) : Type 0 where
   pub few : length (column_names (columns_with columns column)) ≤ limits.columns
@@ -145,7 +148,7 @@ with_new n columns new t f few s =
 
 -- ---- a number of the column that is read
 
--- a row that there is
+-- the target is the objective or one of n rows
 abbrev pub IsInside : ℕ → Target → Type 0
 IsInside n Objective = Unit {0}
 IsInside n (Row i) = i < n
@@ -222,7 +225,7 @@ with_pair {limits = limits} n columns column paired t v i f s =
 
 -- ---- bounds
 
--- its bounds are finite
+-- each number that the card makes a bound is less than 10 ^ 20 from 0
 abbrev IsSmall : BoundCard → Type 0
 IsSmall card = SetsAll (λ q. abs_ℚ q <ℚ infinite) card
 

@@ -15,7 +15,8 @@ use Rattle.spec_model.specs.declared.parts.SizeLimits.{SizeLimits}
 use Rattle.spec_model.specs.Model.{Name}
 use Rattle.spec_model.specs.Kept.{is_row_name, is_model_name}
 
--- the names of the model, of its objective and of its rows
+-- the names of the model, the objective and the rows are valid; those of the objective and the rows are distinct, and
+-- the rows are no more than the limit
 pub record SoundRows (limits : SizeLimits) (name : Name) (objective : Option Name) (rows : List Name) : Type 0 where
   pub few : length rows ≤ limits.rows
   pub model_name : IsTrue (is_model_name name)

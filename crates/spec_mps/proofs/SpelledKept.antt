@@ -89,7 +89,7 @@ All-unmap P f [] h = All-nil (λ y. P (f y))
 All-unmap P f (y ∷ ys) h =
     All-cons (λ y. P (f y)) y ys (All-head P (f y) (map f ys) h) (All-unmap P f ys (All-tail P (f y) (map f ys) h))
 
--- two models are the same where the verdicts that spell them are
+-- two models are the same where the verdicts that say that they are spelled are equal
 pub same_spelled : (m o : Model) → Spelled m ≡ Spelled o → m ≡ o
 same_spelled m o h = cc
 
@@ -213,7 +213,7 @@ module _ (limits : SizeLimits) where
       settled_kept n (λ t. judge limits style t (n + 1) lines) (step limits style s l) m h
       (λ p k. step_sound style s l p k sound) (λ t k. judged_kept style lines t (n + 1) m k)
 
-  -- a spelled model may be kept
+  -- a model that a text spells may be kept: it is valid, within the limits, and its numbers are within 127 bits
   pub spelled_kept : (style : Style) (lines : List (Line (List ℕ))) (m : Model) → SpellsWithin limits style lines m →
       IsKept m
   spelled_kept style lines m h = judged_kept style lines start 1 m h start_sound

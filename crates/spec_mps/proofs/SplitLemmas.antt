@@ -11,13 +11,13 @@ use Rattle.std.proofs.Math.Seq.{take-append_seam, drop-append-add}
 use Rattle.std.proofs.lemmas.Bool.{or_parts}
 use Rattle.spec_mps.specs.NumberText.{behind}
 
--- a text of which no byte passes
+-- where no byte passes the test: the text before the first such byte is all, and nothing is behind
 pub record IsWhole (test : ℕ → Bool) (text : List ℕ) : Type 0 where
   pub before : before_first test text ≡ text
   pub after : after_first test text ≡ []
   pub behind : behind test text ≡ None
 
--- a text with a byte that passes, and none before it
+-- at its first byte that passes the test the text splits into `front`, that byte and `back`
 pub record IsSplit (test : ℕ → Bool) (text front back : List ℕ) : Type 0 where
   pub before : before_first test text ≡ front
   pub after : after_first test text ≡ back

@@ -1,6 +1,6 @@
 -- The name and the sense are what the lines of NAME and OBJSENSE say.
 --
--- `name_said`: the name of a spelled model is the second word of its NAME line.
+-- `name_said`: the name of a spelled model is the second word of its NAME line, and empty where there is none.
 -- `sense_said`: the sense of a spelled model is that of the one word under or beside OBJSENSE, or MIN.
 use Rattle.std.proofs.Common.{cond, ◌≡◌, ℕ, Bool, true, false, Option, Some, None, is_some, Ok, List, []}
 use Rattle.std.proofs.Common.{◌∷◌, ◌++◌, map, refl, sym, ap, ◌∙◌, subst, subst₂, append_assoc, codes, inl, inr}
@@ -41,6 +41,7 @@ seen_stays s part word t h = ap (λ (u : State). u.seen) (headed_leads (begun s 
 
 -- ---- NAME
 
+-- the name is the second word of the heading NAME, if it came; before NAME begins there is no such heading
 record NameSays (title : Option Fields) (begun : Bool) (name : Name) : Type 0 where
   none : begun ≡ false → title ≡ None
   name_is : name ≡ second_word title
@@ -121,6 +122,8 @@ SenseIs [] sense = sense ≡ None
 SenseIs (word ∷ []) sense = (x : Sense) × (sense_of word ≡ Some x) × (sense ≡ Some x)
 SenseIs (word ∷ other ∷ more) sense = ⊥
 
+-- the sense that was read is what the words beside and under OBJSENSE say; before it begins there is no such heading
+-- and no card
 record SenseSays (title : Option Fields) (cards : List Fields) (begun : Bool) (sense : Option Sense) : Type 0 where
   none : begun ≡ false → (title ≡ None) × (cards ≡ [])
   sense_is : SenseIs (sense_words title cards) sense
@@ -261,6 +264,7 @@ looked_up word sense (x ∷ xs) a h = go (same word x.0) refl (looked_up word se
     go true e f k = subst₂ IsSenseWord (same_Some x.1 sense k) (sym (same_true word x.0 e)) a.0
     go false e f k = f k
 
+-- a table of the words for senses, each with its sense
 abbrev senses : List (List ℕ × Sense)
 senses = (codes "MIN", Min) ∷ (codes "MINIMIZE", Min) ∷ (codes "MAX", Max) ∷ (codes "MAXIMIZE", Max) ∷ []
 

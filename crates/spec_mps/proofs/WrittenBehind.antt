@@ -1,6 +1,6 @@
 -- An element that follows others in a list: where it is found, what is read there, and what a change there does.
 --
--- `place_behind`: a name absent from the elements before is found at the place right behind them.
+-- `place_behind`: an element whose name no element before it has is found by that name right behind them.
 -- `changed_behind`: a change at the place behind some elements changes the element there alone.
 -- `there_behind`: what is read at the place behind some elements is the element there.
 use Rattle.std.proofs.Common.{◌≡◌, Some, List, [], ◌∷◌, ◌++◌, length, map, get_or, refl, ap, length-append, arith}

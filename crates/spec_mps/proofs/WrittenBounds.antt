@@ -39,6 +39,7 @@ use Rattle.spec_mps.proofs.WrittenKinds.{value_known, value_shape, value_is, nam
 
 -- ---- one card
 
+-- the set BND, as that of the section's first card
 abbrev pub used_set : Option (Option Name)
 used_set = Some (Some (codes "BND"))
 
@@ -67,13 +68,15 @@ bound_step style s t fields kind texts place card e back known shape used there 
 
 -- ---- where the column is
 
+-- a state with these columns, these notes of lower bounds that cards have set, and this set
 abbrev pub bounding : State → List ExactColumn → List Bool → Option (Option Name) → State
 bounding s columns lowered set = record s { columns = columns; lowered = lowered; set = set }
 
+-- the names of columns, in order
 abbrev pub column_names : List ExactColumn → List Name
 column_names columns = map (λ c. c.name) columns
 
--- the columns before one, with what cards have lowered of them
+-- none of the columns `done` has this name, and there is one flag for each of them
 pub record AreBefore (name : Name) (done : List ExactColumn) (lowered : List Bool) : Type 0 where
   pub absent : IsAbsent name (column_names done)
   pub alike : length lowered ≡ length done
@@ -99,6 +102,8 @@ put_behind s done c more before b after set card e =
 
 -- ---- a card that is read where the column is
 
+-- a state whose column c stands between those done and more, with the notes of lower bounds that cards have set, and
+-- this set
 abbrev pub spot : State → List ExactColumn → ExactColumn → List ExactColumn → List Bool → Bool → List Bool →
     Option (Option Name) → State
 spot s done c more before b after set = bounding s (done ++ c ∷ more) (before ++ b ∷ after) set
@@ -173,7 +178,8 @@ name_room Fixed word name h =
 
 -- ---- the cards of one column
 
--- from the usual bounds to those of the column, whatever was lowered
+-- these cards lead from the state in which column c has the usual bounds to the one in which it has its own, and leave
+-- all other columns
 abbrev pub IsBounded : Style → State → List ExactColumn → ExactColumn → List ExactColumn → List Bool → List Bool →
     Option (Option Name) → WrittenCards → Type 0
 IsBounded style s done c more before after set cards =

@@ -1,6 +1,7 @@
 -- The section BOUNDS of a written text as a whole, and its end.
 --
--- `bounds_are_read`: the cards of BOUNDS of a written model lead the reader to the whole model.
+-- `bounds_are_read`: the cards of BOUNDS of a written model, where the form has room for them, lead the reader to the
+--   whole model.
 -- `end_step`: the line ENDATA ends the text with the model whose parts the state has.
 use Rattle.std.proofs.Common.{◌≡◌, ℕ, suc, Bool, true, false, Option, Some, None, Ok, List, [], ◌∷◌}
 use Rattle.std.proofs.Common.{◌++◌, length, map, refl, sym, ap, ◌∙◌, subst, append_assoc, length-append, arith}
@@ -38,6 +39,7 @@ use Rattle.spec_mps.proofs.WrittenBounds.{IsBounded, bounding, spot, column_name
 
 -- ---- the columns
 
+-- the cards of the bounds of these columns, without a heading
 abbrev bounds_of : List ExactColumn → WrittenCards
 bounds_of columns = flat_map (λ c. bound_cards c.name c.lower c.upper) columns
 

@@ -74,7 +74,8 @@ pair_read : (s u : State) (name : Name) (value : ℚ) (t : Target) → place_of 
 unfolding column_pair
 pair_read s u name value t p n e = rw (p, number_is_in value n, e) refl
 
--- what a card of a column, of the objective or a row, and of a number needs
+-- what a written card of COLUMNS needs to be read: COLUMNS is here, both names are valid and have room, and so has the
+-- number, of at most 127 bits
 pub record IsColumnCard (style : Style) (s : State) (group name : Name) (value : ℚ) : Type 0 where
   pub part : s.part ≡ Some section.Columns
   pub group_item : IsItem style 8 group

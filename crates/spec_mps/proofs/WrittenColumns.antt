@@ -16,9 +16,11 @@ use Rattle.spec_model.specs.Kept.{is_printable}
 use Rattle.spec_mps.specs.Fields.{is_space, without_front, without_end, in_columns}
 use Rattle.spec_mps.specs.Fields.{is_beside, is_misplaced, misplaced_from}
 
+-- all bytes of the text are printable and no blanks
 abbrev pub IsPrinted : List ℕ → Type 0
 IsPrinted w = list_all is_printable w ≡ true
 
+-- this number of spaces
 abbrev pub blanks : ℕ → List ℕ
 blanks n = replicate n 32
 
@@ -144,7 +146,7 @@ placed_blanks column (suc n) rest =
     rw (never (nat_le column 62) (is_beside column))
     (placed_blanks (column + 1) n rest ∙ ap (λ k. misplaced_from k rest) (omega arith))
 
--- columns of fields alone
+-- each of `size` columns of fixed form from `first` on belongs to a field
 abbrev pub HasNoneBeside : ℕ → ℕ → Type 0
 HasNoneBeside first size = (k : ℕ) → first ≤ k → k < first + size → is_beside k ≡ false
 

@@ -33,13 +33,14 @@ use Rattle.spec_mps.proofs.WrittenEntries.{below_push, paired_more, not_paired, 
 
 -- ---- states in COLUMNS
 
--- after the rows of a model
+-- the state is in COLUMNS and has the model's rows, and RHS has not begun
 record IsWithin (m : Model) (s : State) : Type 0 where
   part : s.part ≡ Some section.Columns
   rows : HasRowsOf m s
   begun : s.seen.columns ≡ true
   no_sides : s.seen.right_sides ≡ false
 
+-- a state with these whole columns, this open column, these notes of lower bounds, and these targets that have a number
 abbrev at : State → List ExactColumn → Option ExactColumn → List Bool → List Target → State
 at s columns column lowered paired = record s { columns = columns; column = column; lowered = lowered; paired = paired }
 
@@ -56,10 +57,12 @@ rows_at m s columns column lowered paired h =
 abbrev with_entries : ExactColumn → List (ℕ × ℚ) → ExactColumn
 with_entries c es = record (bare_column c) { entries = es }
 
+-- the targets that have a number, with the rows of these entries before them
 abbrev paired_by : List Target → List (ℕ × ℚ) → List Target
 paired_by paired [] = paired
 paired_by paired (e ∷ es) = paired_by (Row e.0 ∷ paired) es
 
+-- the card of a column's entry: the names of the column and the row, and the value
 abbrev entry_card : Model → ExactColumn → ℕ × ℚ → WrittenCard
 entry_card m c e = number_card c.name (row m e.0).name e.1
 
@@ -162,6 +165,7 @@ column_goes style m s c columns column lowered paired kept within k n closed abs
 
 -- ---- names of columns
 
+-- the names of columns, in order
 abbrev names_of_columns : List ExactColumn → List Name
 names_of_columns columns = map (λ c. c.name) columns
 
@@ -244,7 +248,7 @@ columns_go style m s (c ∷ cs) columns column lowered paired kept within k n ne
 
 -- ---- the section
 
--- the written cards of COLUMNS are read as the model's columns, without bounds
+-- the written cards of COLUMNS of a usual model that fits the form are read as its columns, without bounds
 pub columns_are_read : (style : Style) (m : Model) → IsUsualModel m → Fits style m → ColumnsAreRead style m
 unfolding columns_cards
 columns_are_read style m kept fits s none =

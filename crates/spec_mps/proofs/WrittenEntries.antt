@@ -18,14 +18,14 @@ use Rattle.spec_mps.specs.declared.target.Target.{Target}
 use Rattle.spec_mps.specs.declared.target.Target.TheVariants.{Objective, Row}
 use Rattle.spec_mps.specs.Reader.{is_among, put_entry, with_number}
 
--- an entry of one of n rows, not below the row low
+-- an entry that is not 0, of at most 127 bits, in one of n rows that is not below `low`
 pub record IsNext (n low : ℕ) (e : ℕ × ℚ) : Type 0 where
   pub above : low ≤ e.0
   pub inside : e.0 < n
   pub not_zero : e.1 ≢ 0ℚ
   pub narrow : IsNarrow e.1
 
--- such entries, each above the one before
+-- entries that are not 0, of at most 127 bits, in strictly ascending rows from `low` on, of n rows
 abbrev pub Ascend : ℕ → ℕ → List (ℕ × ℚ) → Type 0
 Ascend n low [] = Unit {0}
 Ascend n low (e ∷ es) = IsNext n low e × Ascend n (suc e.0) es
@@ -52,12 +52,12 @@ entries_ascend n es h narrow = ascend_from n 0 es (λ i d l. omega arith) h.insi
 
 -- ---- after smaller ones
 
--- the entries stand at rows below this one
+-- each of these entries stands in a row below row i
 abbrev pub AreBelow : ℕ → List (ℕ × ℚ) → Type 0
 AreBelow i [] = Unit {0}
 AreBelow i (e ∷ es) = (e.0 < i) × AreBelow i es
 
--- and so does what has a number
+-- each row among these targets is below row i
 abbrev pub ArePaired : ℕ → List Target → Type 0
 ArePaired i [] = Unit {0}
 ArePaired i (Objective ∷ ts) = ArePaired i ts

@@ -12,8 +12,7 @@ use Rattle.spec_mps.proofs.WrittenSteps.{bare_row, bare_column}
 abbrev pub rangeless : ExactRow → ExactRow
 rangeless r = record r { range = None }
 
--- what no later section changes: the name, the sense, the objective, that COLUMNS has begun, and the column that
--- cards are read of
+-- these are the name, the sense and the objective of the model; COLUMNS has begun, and no column is open
 pub record IsStart (n : Name) (sense_read : Option Sense) (o : Option Name)
     (begun : Bool) (column : Option ExactColumn) (m : Model) : Type 0 where
   pub name : n ≡ m.name
@@ -22,6 +21,8 @@ pub record IsStart (n : Name) (sense_read : Option Sense) (o : Option Name)
   pub may_follow : begun ≡ true
   pub none_open : column ≡ None
 
+-- the state has what no later section changes of the model: the name, the sense, the objective, and that COLUMNS has
+-- begun
 abbrev pub HasStart : State → Model → Type 0
 HasStart s m = IsStart s.name s.sense s.objective s.seen.columns s.column m
 
@@ -37,16 +38,18 @@ start_closed s m k =
       none_open = refl;
     }
 
--- no column has its bounds
+-- the columns are those of the model with the usual bounds in place of their own, and BOUNDS has not begun
 pub record HasNoneBounded (begun : Bool) (cs : List ExactColumn) (ls : List Bool) (m : Model) : Type 0 where
   pub no_bounds : begun ≡ false
   pub columns : cs ≡ map bare_column m.columns
   pub none_lowered : ls ≡ map (λ c. false) m.columns
 
+-- the state's columns are those of the model with the usual bounds in place of their own, and BOUNDS has not begun
 abbrev pub IsUnbounded : State → Model → Type 0
 IsUnbounded s m = HasNoneBounded s.seen.bounds s.columns s.lowered m
 
--- after the heading RHS
+-- the state after the heading RHS: it has the model's rows without right sides and ranges, its columns with the usual
+-- bounds, offset 0, no set and no noted target
 pub record HasNoSides (s : State) (m : Model) : Type 0 where
   pub known : HasStart s m
   pub unbounded : IsUnbounded s m
@@ -57,6 +60,8 @@ pub record HasNoSides (s : State) (m : Model) : Type 0 where
   pub none_paired : s.paired ≡ []
   pub no_set : s.set ≡ None
 
+-- the state before RANGES: it has the model's offset, its rows without their ranges, and its columns with the usual
+-- bounds
 pub record HasNoRanges (s : State) (m : Model) : Type 0 where
   pub known : HasStart s m
   pub unbounded : IsUnbounded s m
@@ -64,12 +69,14 @@ pub record HasNoRanges (s : State) (m : Model) : Type 0 where
   pub offset : s.offset ≡ m.offset
   pub rows : s.rows ≡ map rangeless m.rows
 
+-- the state before BOUNDS: it has the model's offset and rows, and its columns with the usual bounds
 pub record HasNoBounds (s : State) (m : Model) : Type 0 where
   pub known : HasStart s m
   pub unbounded : IsUnbounded s m
   pub offset : s.offset ≡ m.offset
   pub rows : s.rows ≡ m.rows
 
+-- the state has all of the model: its name, sense, objective, offset, rows and columns
 pub record IsWhole (s : State) (m : Model) : Type 0 where
   pub known : HasStart s m
   pub offset : s.offset ≡ m.offset

@@ -48,7 +48,7 @@ cell_read front w n first last size h a b fits far =
     (append_assoc front w (blanks n) ∙ ap (λ l. front ++ (w ++ l)) (sym (append-nil (blanks n))))
     ∙ column_read front w [] n first last size h a b fits far
 
--- no byte of a line is misplaced, whatever follows it
+-- no byte of the line is misplaced, so the search for a misplaced byte goes on behind it, whatever follows
 abbrev pub IsPlaced : List ℕ → Type 0
 IsPlaced line = (rest : List ℕ) → misplaced_from 1 (line ++ rest) ≡ misplaced_from (length line + 1) rest
 
@@ -134,16 +134,17 @@ a_field n (b ∷ w) h = refl
 
 -- ---- lines of cells
 
--- this many bytes, of which none is misplaced
+-- the line has so many bytes, all of them spaces or printable, and none is misplaced
 pub record IsFront (line : List ℕ) (size : ℕ) : Type 0 where
   pub long : length line ≡ size
   pub plain : list_all is_plain line ≡ true
   pub placed : IsPlaced line
 
--- a text after a line, with blanks up to this many bytes
+-- a line, a text behind it, and blanks up to so many bytes in all
 abbrev pub cell : ℕ → List ℕ → List ℕ → List ℕ
 cell next line w = (line ++ w) ++ blanks (next - length (line ++ w))
 
+-- the text is a word that fits a field of this size, which begins in this column and has only columns of fields
 pub record IsCell (column size : ℕ) (w : List ℕ) : Type 0 where
   pub word : IsWord w
   pub fits : length w ≤ size
@@ -186,7 +187,8 @@ cell_keeps line w first last next h =
     let a : length (line ++ w) ≡ length line + length w = length-append line w in
     within first last (line ++ w) (blanks (next - length (line ++ w))) (omega arith) ∙ within first last line w h
 
--- a last text after a line
+-- a whole line of no more bytes than the limit, of spaces and printable bytes; it is not blank, and no byte is
+-- misplaced
 pub record IsEnded (line : List ℕ) (limit : ℕ) : Type 0 where
   pub short : length line ≤ limit
   pub plain : list_all is_plain line ≡ true
@@ -258,7 +260,7 @@ type_card_read k a hk ha =
     (last_is two a 4 5 12 8 front refl refl ha) (column_past line 15 22 (omega arith))
     (column_past line 25 36 (omega arith)) (rw (a_field 1 k hk.word, a_field 2 a ha.word) refl)
 
--- the first two fields, with blanks after them
+-- the line has 14 bytes, with the texts k and a in its fields 1 and 2
 record HasTwo (k a line : List ℕ) : Type 0 where
   front : IsFront line 14
   first : in_columns 2 3 line ≡ k

@@ -9,6 +9,7 @@ use Rattle.spec_mps.specs.Steps.{judge}
 use Rattle.spec_mps.specs.Written.{WrittenCards, line_text}
 use Rattle.spec_mps.proofs.WrittenSteps.{Goes, card_lines}
 
+-- where some cards lead from s to t, and others from t to u, all of them lead from s to u
 pub goes_append : (style : Style) (s t u : State) (cs ds : WrittenCards) → Goes style s cs t → Goes style t ds u →
     Goes style s (cs ++ ds) u
 goes_append style s t u cs ds h k =

@@ -31,6 +31,7 @@ use Rattle.spec_mps.proofs.WrittenCards.{IsItem, read_as}
 use Rattle.spec_mps.proofs.RoundTrip.{read_written}
 use Rattle.spec_mps.proofs.BoundLemmas.{number_is_bound, within_from_abs}
 
+-- the word for a kind of bounds on a written card
 abbrev pub bound_word : BoundKind → List ℕ
 bound_word Up = codes "UP"
 bound_word Lo = codes "LO"
@@ -39,7 +40,7 @@ bound_word Fr = codes "FR"
 bound_word Mi = codes "MI"
 bound_word Pl = codes "PL"
 
--- what a card of a kind sets, with this value if it takes one
+-- what a card of this kind sets: the bound q where the kind takes a value, else no bound
 abbrev pub says : BoundKind → ℚ → BoundCard
 says Up q = SetsUpper (Some q)
 says Lo q = SetsLower (Some q)
@@ -67,14 +68,16 @@ kind_item Fixed kind = record { word = word_is kind; room = fits kind }
     fits Up = omega arith
     fits kind = omega arith
 
+-- the fields of a written card of BOUNDS with a number: the kind, the set BND, the column and the number's text
 abbrev pub number_fields : BoundKind → Name → ℚ → Fields
 number_fields kind name q =
     field_at 1 (bound_word kind) ∷ field_at 2 (codes "BND") ∷ field_at 3 name ∷ field_at 4 (number_text q) ∷ []
 
+-- the fields of a written card of BOUNDS without a number: the kind, the set BND and the column
 abbrev pub name_fields : BoundKind → Name → Fields
 name_fields kind name = field_at 1 (bound_word kind) ∷ field_at 2 (codes "BND") ∷ field_at 3 name ∷ []
 
--- a number that is a bound
+-- the number has at most 127 bits and is below 10 ^ 20 in size
 pub record IsBoundNumber (q : ℚ) : Type 0 where
   pub narrow : IsNarrow q
   pub small : abs_ℚ q <ℚ infinite

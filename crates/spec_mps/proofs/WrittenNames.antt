@@ -69,7 +69,8 @@ fresh_names first names k = (fresh [] (first ∷ names) (λ i d a. refl) k).1
 
 -- ---- room in fixed form
 
--- where a field under a test, or else another, gives no text, neither is there
+-- where neither a field that counts only if a test passes nor another one is there, the test fails and the other is
+-- absent
 cond_none : (t : Bool) (f : Field) (o : Option Field) → option_map (λ g. g.text) (cond t (Some f) o) ≡ None →
     (t ≡ false) × (option_map (λ g. g.text) o ≡ None)
 cond_none true f o h = cc
@@ -79,12 +80,12 @@ pub field_narrow : (f : Field) (fs : Fields) → option_map (λ g. g.text) (find
     (is_wide f ≡ false) × (option_map (λ g. g.text) (find is_wide fs) ≡ None)
 field_narrow f fs h = cond_none (is_wide f) f (find is_wide fs) h
 
--- where the first field that is there of two gives no text, the first gives none
+-- where neither of two fields is there, the first is absent
 front_none : (x y : Option Field) → option_map (λ g. g.text) (option_or x y) ≡ None → option_map (λ g. g.text) x ≡ None
 front_none None y h = refl
 front_none (Some f) y h = cc
 
--- where the first field that is there of two gives no text, the second gives none
+-- where neither of two fields is there, the second is absent
 back_none : (x y : Option Field) → option_map (λ g. g.text) (option_or x y) ≡ None → option_map (λ g. g.text) y ≡ None
 back_none None y h = h
 back_none (Some f) y h = cc
@@ -109,6 +110,7 @@ back_narrow cs ds h =
 
 -- ---- rows
 
+-- the form has room for the cards of these rows: free form always, fixed form where no field is too wide
 abbrev pub RoomForRows : Style → List ExactRow → Type 0
 RoomForRows Free rows = Unit {0}
 RoomForRows Fixed rows = first_wide (map row_card rows) ≡ None
