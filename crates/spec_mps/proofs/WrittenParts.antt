@@ -1,7 +1,7 @@
 -- What the sections RHS, RANGES and BOUNDS of a written text have in common: data cards with a number.
 --
 -- `given_step`: in a section with numbers, a line read as a data card is taken by that section's rule.
--- `number_item`: the text of a number within 127 bits that has room is an item of 12 bytes.
+-- `number_item`: the text of a number within 127 bits that has room is a word that fits a field of 12 bytes.
 -- `number_card_of`: a word and a number within 127 bits on a card with room make a card that says the number of a row.
 use Rattle.std.proofs.Common.{◌≡◌, ℕ, Bool, true, false, Some, Ok, List, [], ◌∷◌, refl, ap, ◌∙◌}
 use Rattle.spec_text.specs.declared.line.Line.TheVariants.{Text}
@@ -26,11 +26,11 @@ use Rattle.spec_mps.proofs.WrittenRoom.{RoomFor, card_room}
 
 -- ---- data cards of a section
 
--- a column or a set, a row's name and a number
+-- the fields 2 to 4 of a card with a number: a column or a set, a row's name and the number's text
 abbrev pub number_fields : Name → Name → List ℕ → Fields
 number_fields group name text = field_at 2 group ∷ field_at 3 name ∷ field_at 4 text ∷ []
 
--- one of those whose cards are read by the form's fields
+-- whether the data cards of the section have numbers: COLUMNS, RHS, RANGES and BOUNDS
 abbrev pub has_numbers : Section → Bool
 has_numbers section.Name = false
 has_numbers section.Sense = false
@@ -69,7 +69,7 @@ pub number_item : (style : Style) (q : ℚ) → IsNarrow q → HasRoom style 12 
     IsItem style 12 (number_text q)
 number_item style q h room = record { word = number_word q h.top h.bottom; room = room }
 
--- a card that says a number of a row: its name and the number have room, and are read as they are
+-- a row's name and a number's text are words with room on a card, and the text is read as the number
 pub record IsNumberCard (style : Style) (name : Name) (q : ℚ) : Type 0 where
   pub row : IsItem style 8 name
   pub number : IsItem style 12 (number_text q)

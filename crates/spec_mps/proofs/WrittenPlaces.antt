@@ -64,7 +64,7 @@ position_of rows i h l = rw (passed rows i h l, length-map rows bare_row, lt-ltb
 
 -- ---- what names stand for
 
--- the objective and the rows of a model are read
+-- the state has the model's objective, and its rows without right sides and ranges
 pub record HasRowsOf (m : Model) (s : State) : Type 0 where
   pub objective : s.objective ≡ Some m.objective
   pub rows : s.rows ≡ map bare_row m.rows

@@ -33,6 +33,7 @@ use Rattle.spec_mps.proofs.WrittenSets.{number_goes}
 
 -- ---- the rows
 
+-- the cards of the ranges of these rows, without a heading
 abbrev ranges_of : List ExactRow → WrittenCards
 ranges_of rows = flat_map (λ r. range_cards r.name r.range) rows
 

@@ -21,12 +21,12 @@ use Rattle.spec_mps.proofs.WrittenCards.{HasRoom}
 use Rattle.spec_mps.proofs.WrittenSteps.{Fits}
 use Rattle.spec_mps.proofs.WrittenNames.{front_narrow, back_narrow, field_narrow}
 
--- free form has room for all cards
+-- the form has room for these cards: free form always, fixed form where no field is too wide
 abbrev pub RoomFor : Style → WrittenCards → Type 0
 RoomFor Free cards = Unit {0}
 RoomFor Fixed cards = first_wide cards ≡ None
 
--- a card and those after it
+-- both names and the number of a card have room, and so have the cards behind it
 pub record HasRooms (style : Style) (column place : Name) (value : ℚ) (cards : WrittenCards) : Type 0 where
   pub group : HasRoom style 8 column
   pub name : HasRoom style 8 place
@@ -56,7 +56,7 @@ pub room_back : (style : Style) (cs ds : WrittenCards) → RoomFor style (cs ++ 
 room_back Free cs ds h = tt
 room_back Fixed cs ds h = back_narrow cs ds h
 
--- what a model's sections need
+-- the cards of each section from ROWS to BOUNDS of the model have room in the form
 pub record HasItsRoom (style : Style) (m : Model) : Type 0 where
   pub rows : RoomFor style (rows_cards m)
   pub columns : RoomFor style (columns_cards m)

@@ -30,7 +30,7 @@ use Rattle.spec_mps.proofs.WrittenRoom.{RoomFor, room_front, room_back}
 
 -- ---- where a row is
 
--- no row from this one on has a number
+-- no row from row n on is among the targets that have a number
 abbrev pub IsUnpaired : ℕ → List Target → Type 0
 IsUnpaired n paired = (i : ℕ) → n ≤ i → is_among (Row i) paired ≡ false
 
@@ -51,14 +51,16 @@ place_of_row s objective done r more o e h =
 
 -- ---- all rows
 
--- from some rows to others, whatever has a number after the cards
+-- these cards lead from the state with the rows `before` to the one with the rows `after`, whatever targets and set are
+-- noted then
 abbrev pub RowsGo : Style → State → List ExactRow → WrittenCards → List ExactRow → List Target → Option (Option Name) →
     Type 0
 RowsGo style s before cards after paired set =
     (p : List Target) × (q : Option (Option Name)) × Goes style
     (record s { rows = before; paired = paired; set = set }) cards (record s { rows = after; paired = p; set = q })
 
--- one row, behind those that are done, after which no later one has a number
+-- these cards change one row, behind those that are done, and leave the others; then no later row has a number, and the
+-- set in use is still this group
 abbrev pub RowGoes : Style → State → Name → List ExactRow → ExactRow → ExactRow → List ExactRow → WrittenCards →
     List Target → Option (Option Name) → Type 0
 RowGoes style s group done r changed more cards paired set =
@@ -67,7 +69,7 @@ RowGoes style s group done r changed more cards paired set =
     cards (record s { rows = done ++ changed ∷ more; paired = p; set = q })
     × IsUnpaired (length done + 1) p × (is_used q (Some group) ≡ true)
 
--- what each row needs
+-- each row has what `Need` asks
 abbrev pub AllNeed : (ExactRow → Type 0) → List ExactRow → Type 0
 AllNeed Need [] = Unit {0}
 AllNeed Need (r ∷ rows) = Need r × AllNeed Need rows
@@ -75,12 +77,16 @@ AllNeed Need (r ∷ rows) = Need r × AllNeed Need rows
 -- rows that cards change from one form to another
 module _ (style : Style) (s : State) (objective group : Name) (before after : ExactRow → ExactRow)
     (cards : ExactRow → WrittenCards) (Need : ExactRow → Type 0) where
+  -- the cards of a row, behind the rows that are done and without a number yet, change this row alone, as `before` and
+  -- `after` say
   abbrev pub OneGoes : Type 0
   OneGoes =
       (done : List ExactRow) (r : ExactRow) (more : List ExactRow) (paired : List Target) (set : Option (Option Name)) →
       Need r → IsAbsent r.name (objective ∷ names_of done) → IsUnpaired (length done) paired →
       is_used set (Some group) ≡ true → RowGoes style s group done (before r) (after r) more (cards r) paired set
 
+  -- where the cards of one row change it as `before` and `after` say, the cards of all rows do so with each row, one
+  -- after another
   pub rows_go : ((r : ExactRow) → (after r).name ≡ r.name) → OneGoes → (done rest : List ExactRow)
       (paired : List Target) (set : Option (Option Name)) → AllNeed Need rest
       → AreFresh (objective ∷ names_of done) (names_of rest) →

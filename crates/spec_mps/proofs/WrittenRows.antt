@@ -53,6 +53,7 @@ goes_then style s t u card cards h k =
 
 -- ---- one row
 
+-- the fields of a written card of ROWS: the type and the name
 abbrev pub type_fields : List ℕ → Name → Fields
 type_fields type name = field_at 1 type ∷ field_at 2 name ∷ []
 
@@ -132,15 +133,16 @@ objective_added s name none h k = rw (h, k, none) refl
 
 -- ---- all rows
 
--- a name that is not among others
+-- the name is none of these names
 abbrev pub IsAbsent : Name → List Name → Type 0
 IsAbsent name names = list_any (λ n. same n name) names ≡ false
 
--- each name is not among those before it
+-- each of the second names is none of the first ones, nor of those before it
 abbrev pub AreFresh : List Name → List Name → Type 0
 AreFresh seen [] = Unit {0}
 AreFresh seen (name ∷ names) = IsAbsent name seen × AreFresh (seen ++ name ∷ []) names
 
+-- the names of rows, in order
 abbrev pub names_of : List ExactRow → List Name
 names_of rows = map (λ r. r.name) rows
 
@@ -165,7 +167,7 @@ place_absent s objective name e h =
     let p = or_parts (same objective name) (list_any (λ n. same n name) (names_of s.rows)) h in
     rw (e, p.0, position_absent s.rows name p.1) refl
 
--- what each row needs
+-- each row's name is valid, and is a word with room in a field of 8 bytes
 abbrev pub AreRows : Style → List ExactRow → Type 0
 AreRows style [] = Unit {0}
 AreRows style (r ∷ rows) = IsItem style 8 r.name × (is_row_name r.name ≡ true) × AreRows style rows

@@ -49,7 +49,7 @@ nowhere : (s : State) (name : Name) → HasNoRows s → place_of (begun s sectio
 unfolding place_of
 nowhere s name h = rw (h.no_objective, h.no_row) refl
 
--- the section ROWS of a written text is read as the model's objective and rows
+-- the section ROWS of a usual model that fits the form is read as its objective and rows
 pub rows_are_read : (style : Style) (m : Model) → IsUsualModel m → Fits style m → RowsAreRead style m
 unfolding rows_cards
 rows_are_read style m kept fits s none =

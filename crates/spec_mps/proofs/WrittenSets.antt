@@ -29,17 +29,17 @@ use Rattle.spec_mps.proofs.WrittenBehind.{changed_behind, there_behind}
 use Rattle.spec_mps.proofs.WrittenParts.{number_fields, has_numbers, given_step, IsNumberCard}
 use Rattle.spec_mps.proofs.WrittenRowNumbers.{IsUnpaired, place_of_row}
 
--- the set that is written
+-- the set that a written card names: RHS in RHS, RNG in RANGES
 abbrev pub group_of : Sets → Name
 group_of Sides = codes "RHS"
 group_of Ranges = codes "RNG"
 
--- a row with its number
+-- a row with this number as its right side, for RHS, or as its range, for RANGES
 abbrev pub with_value : Sets → ℚ → ExactRow → ExactRow
 with_value Sides v r = record r { rhs = v }
 with_value Ranges v r = record r { range = Some v }
 
--- the kinds of rows that take such a number
+-- a row of this kind takes such a number: each does for RHS, all but free rows for RANGES
 abbrev pub Takes : Sets → Kind → Type 0
 Takes Sides kind = Unit {0}
 Takes Ranges kind = is_free kind ≡ false

@@ -46,11 +46,12 @@ use Rattle.spec_mps.proofs.WrittenWords.{is_plain, plain_text}
 
 -- ---- lines
 
--- a field's text
+-- the text has at most 100 bytes, all of them spaces or printable
 pub record IsShort (w : List ℕ) : Type 0 where
   pub fits : length w ≤ 100
   pub plain : list_all is_plain w ≡ true
 
+-- the text of each field is short and plain
 abbrev AreShort : Fields → Type 0
 AreShort [] = Unit {0}
 AreShort (f ∷ fs) = IsShort f.text × AreShort fs
@@ -118,7 +119,7 @@ line_plain style line (f ∷ fs) h k =
     line_plain style (padded style f.number line ++ f.text) fs
     (plain_both (padded style f.number line) f.text (plain_padded style f.number line h) k.0.plain) k.1
 
--- a card with a few short fields
+-- the card has at most four fields, and their texts and what begins a heading are short and plain
 abbrev pub IsShortCard : WrittenCard → Type 0
 IsShortCard (Head start fields) = IsShort start × AreShort fields × (length fields ≤ 4)
 IsShortCard (Data fields) = AreShort fields × (length fields ≤ 4)
@@ -223,6 +224,7 @@ number_short q h =
 
 -- ---- cards
 
+-- each of these cards has few short fields
 abbrev pub AreShortCards : WrittenCards → Type 0
 AreShortCards cards = All IsShortCard cards
 

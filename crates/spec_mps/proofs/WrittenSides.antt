@@ -22,10 +22,11 @@ use Rattle.spec_mps.proofs.WrittenRowNumbers.{RowsGo, RowGoes, AllNeed, rows_go}
 use Rattle.spec_mps.proofs.WrittenSets.{number_goes}
 use Rattle.spec_mps.proofs.WrittenFacts.{rangeless}
 
--- a row that has a card has room for it
+-- where a row's right side is not 0, its name and this number have room on a card
 abbrev pub NeedsSide : Style → ExactRow → Type 0
 NeedsSide style r = eq_ℚ r.rhs 0ℚ ≡ false → IsNumberCard style r.name r.rhs
 
+-- the cards of the right sides of these rows, without a heading
 abbrev pub sides_of : List ExactRow → WrittenCards
 sides_of rows = flat_map (λ r. side_cards r.name r.rhs) rows
 

@@ -36,7 +36,7 @@ side_known style r word fit h room z =
     number_card_of style (codes "RHS") r.name r.rhs word h.rhs
     (subst (λ t. RoomFor style (cond t [] (number_card (codes "RHS") r.name r.rhs ∷ []))) z room)
 
--- the offset is known, and no row has a right side
+-- the state in RHS once the offset is read: it has the model's offset, and no row has a right side or a range
 record HasOffset (s : State) (m : Model) : Type 0 where
   pub known : HasStart s m
   pub unbounded : IsUnbounded s m

@@ -46,6 +46,7 @@ use Rattle.spec_mps.proofs.WrittenShort.{cards_short, plain_line}
 abbrev started : Option Section → Seen → Name → Option Sense → State
 started part seen name sense = record start { part = part; seen = seen; name = name; sense = sense }
 
+-- none of ROWS, COLUMNS, RHS, RANGES and BOUNDS has begun
 record IsFresh (seen : Seen) : Type 0 where
   rows : seen.rows ≡ false
   columns : seen.columns ≡ false
@@ -108,6 +109,7 @@ sides_then m =
 regroup : (a c : WrittenCards) (r s : WrittenCards) → (a ++ (c ++ r)) ++ s ≡ (a ++ c) ++ (r ++ s)
 regroup a c r s = append_assoc a (c ++ r) s ∙ ap (λ l. a ++ l) (append_assoc c r s) ∙ sym (append_assoc a c (r ++ s))
 
+-- the cards of RHS without the heading: that of the objective, then those of the rows
 abbrev sides : Model → WrittenCards
 sides m = side_cards m.objective (neg_ℚ m.offset) ++ sides_of m.rows
 
@@ -156,7 +158,7 @@ body_goes style m kept fits columns_are_read =
     let to_ranges = goes_append style start a.0 b.0 first (ranges_cards m) a.1 b.1 in
     (c.0, goes_append style start b.0 c.0 (first ++ ranges_cards m) (bounds_cards m) to_ranges c.1, c.2)
 
--- the lines of a written text's cards spell the model
+-- the lines of the cards of a usual model that fits the form spell the model, where its columns are read
 cards_spell : (style : Style) (m : Model) → IsUsualModel m → Fits style m → ColumnsAreRead style m →
     judge usual_limits style start 1 (card_lines style (cards_of m)) ≡ Spelled m
 unfolding cards_of
@@ -170,7 +172,7 @@ cards_spell style m kept fits columns_are_read =
 
 -- ---- the text
 
--- the lines of a written text spell the model
+-- the lines of the text of a usual model that fits the form spell the model, where its columns are read
 text_spells : (style : Style) (m : Model) → IsUsualModel m → Fits style m → ColumnsAreRead style m →
     Spells style (lines_of (cards_text style (cards_of m))) m
 text_spells style m kept fits columns_are_read =

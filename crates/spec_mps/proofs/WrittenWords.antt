@@ -28,6 +28,7 @@ use Rattle.spec_mps.specs.Fields.{Field, Fields, Is, free_fields, word_fields, n
 use Rattle.spec_mps.specs.Written.{Data, line_text, with_fields}
 use Rattle.spec_mps.specs.NumberWritten.{IsWord}
 
+-- each of these texts is a word
 abbrev pub AreWords : List (List ℕ) → Type 0
 AreWords [] = Unit {0}
 AreWords (w ∷ ws) = IsWord w × AreWords ws
@@ -47,6 +48,7 @@ no_blanks (b ∷ w) h =
 
 -- ---- words
 
+-- the longest runs of bytes of a text without a blank
 abbrev pub parts : List ℕ → List (List ℕ)
 parts bs = filter has_bytes (slice_split is_blank bs)
 
@@ -57,7 +59,7 @@ pub parts_word_then : (w rest : List ℕ) → IsWord w → parts (w ++ 32 ∷ re
 parts_word_then w rest h =
     ap (filter has_bytes) (slice_split_at is_blank w 32 rest (no_blanks w h.printable) refl) ∙ rw h.some refl
 
--- a blank before each word
+-- these words, each with a blank before it
 abbrev pub joined : List (List ℕ) → List ℕ
 joined [] = []
 joined (w ∷ ws) = 32 ∷ (w ++ joined ws)
@@ -74,6 +76,7 @@ words_of_joined ws h = parts_joined ws h
 
 -- ---- a line that is printed, with blanks
 
+-- whether a byte is a space or printable
 abbrev pub is_plain : ℕ → Bool
 is_plain b = nat_le 32 b && nat_le b 126
 
