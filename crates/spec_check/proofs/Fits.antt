@@ -45,7 +45,7 @@ with_value_fits m X k v (Unbounded x r) f = (length-set x k v ∙ f.0, f.1)
 with_value_fits m Y k v (Unbounded x r) f = f
 with_value_fits m R k v (Unbounded x r) f = (f.0, length-set r k v ∙ f.1)
 
--- a certificate that fits a model still fits it with one part more
+-- a certificate that has a model's sizes still has them with one part more, where that can be put
 put_fits : (m : Model) (before : List ExactPart) (p : ExactPart) (cert next : Certificate (List ℚ)) → IsFor m cert →
     put m before p cert ≡ Ok next → IsFor m next
 unfolding put
@@ -65,7 +65,7 @@ put_fits m before p cert next f e =
         subst (IsFor m) (ok_same (with_value p.letter k p.value cert) next h)
         (with_value_fits m p.letter k p.value cert f)
 
--- a certificate that fits a model still fits it after the numbers that all parts name are set
+-- a certificate that fits a model still fits it with each part of a list put into it, where all of them can be put
 all_fit : (m : Model) (before parts : List ExactPart) (cert last : Certificate (List ℚ)) → IsFor m cert →
     put_all m before parts cert ≡ Ok last → IsFor m last
 all_fit m before [] cert last f e = subst (IsFor m) (ok_same cert last e) f

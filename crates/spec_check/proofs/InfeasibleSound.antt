@@ -26,7 +26,7 @@ use Rattle.spec_check.specs.Run.{rows_ask_run, columns_give_run, infeasible_run,
 use Rattle.spec_check.proofs.StepsSound.{after_ok, need_ok, sum_ok, some_ok_at, plus_ok}
 use Rattle.spec_check.proofs.StepsSound.{products_ok, lower_ok, upper_ok, less_from, greater_from, compared}
 
--- what weighing a limit says
+-- l has the limit that goes with the sign of d, and u is s with d times that limit added
 pub record Weighed (l : Limits) (d s u : ℚ) : Type 0 where
   pub there : HasLimit l d
   pub sum : u ≡ s +ℚ d *ℚ asked l d

@@ -111,7 +111,7 @@ module _ (limit : Option ℕ) where
   sum_agrees : (n : ℕ) (f g : ℕ → ℚ) → Agrees (sum_run limit n f g) (sum_run None n f g)
   sum_agrees n f g = steps_agrees 0ℚ n _ _ (λ k s. plus_agrees (f k) (g k) s)
 
-  -- a row's limits
+  -- at a limit on numbers a row's limit comes out as without one, or its operation is refused
   limit_agrees : (o : RowLimit ℚ) →
       Agrees (refused_as stop.Past (limit_run limit o)) (refused_as stop.Past (limit_run None o))
   limit_agrees Absent = same _
@@ -135,7 +135,7 @@ module _ (limit : Option ℕ) where
   most_agrees n None v = same _
   most_agrees n (Some k) v = after_agrees _ _ _ _ (compare_agrees v k) (λ o. same _)
 
-  -- a feasible point
+  -- at a limit on numbers condition 1 of a column ends as without one, or a comparison is refused
   column_within_agrees : (m : Model) (x : List ℚ) (j : ℕ) →
       Agrees (column_within_run limit m x j) (column_within_run None m x j)
   column_within_agrees m x j =
@@ -151,7 +151,7 @@ module _ (limit : Option ℕ) where
       after_agrees _ _ _ _ (lower_agrees (row m i)) (λ l. after_agrees _ _ _ _ (least_agrees 2 l v) (λ _.
       after_agrees _ _ _ _ (upper_agrees (row m i)) (λ u. most_agrees 2 u v))))
 
-  -- complementary multipliers
+  -- at a limit on numbers a reduced cost comes out as without one, or an operation is refused
   reduced_agrees : (m : Model) (y : List ℚ) (j : ℕ) → Agrees (reduced_run limit m y j) (reduced_run None m y j)
   reduced_agrees m y j =
       steps_agrees (signed m.sense (cost m j)) (height m) _ _ (λ i d. less_agrees (part y i) (coefficient m i j) d)
@@ -180,7 +180,7 @@ module _ (limit : Option ℕ) where
       after_agrees _ _ _ _ (each_agrees (height m) _ _ (row_tight_agrees m x y)) (λ _.
       after_agrees _ _ _ _ (value_agrees m x) (λ v. same _)))))
 
-  -- rows that no point satisfies together
+  -- at a limit on numbers s + d * b comes out, or lacks b, as without one, or an operation is refused
   weighed_at_agrees : (n : ℕ) (d : ℚ) (o : Option ℚ) (s : ℚ) →
       Agrees (weighed_at n limit d o s) (weighed_at n None d o s)
   weighed_at_agrees n d None s = same _
@@ -222,7 +222,7 @@ module _ (limit : Option ℕ) where
   clash_agrees : (m : Model) (j : ℕ) → Agrees (clash_run limit m j) (clash_run None m j)
   clash_agrees m j = after_agrees _ _ _ _ (crossed_agrees (bounds m j).lower (bounds m j).upper) (λ _. same _)
 
-  -- a ray
+  -- at a limit on numbers condition 4 of a ray at a row ends as without one, or an operation is refused
   row_allows_agrees : (m : Model) (r : List ℚ) (i : ℕ) → Agrees (row_allows_run limit m r i) (row_allows_run None m r i)
   row_allows_agrees m r i =
       after_agrees _ _ _ _ (activity_agrees m r i) (λ s.

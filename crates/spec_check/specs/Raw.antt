@@ -18,7 +18,7 @@ RawOf F = RawCertificate Name (List (PartOf F))
 abbrev pub ExactPart : Type 0
 ExactPart = PartOf ℚ
 
--- what a certificate's text is to show, where a clash names its column by bytes
+-- the kind of a certificate: what it is to show, and for a clash the name of the column
 abbrev pub ExactKind : Type 0
 ExactKind = CertificateKind Name
 

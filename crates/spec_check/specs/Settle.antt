@@ -30,24 +30,26 @@ abbrev pub known : Option ℕ → Name → Settled ℕ
 known None name = Err (UnknownName name)
 known (Some k) name = Ok k
 
--- the number of the column or row that a part is for, if its name is known
+-- the number of the column, for the letters x and r, or of the row, for y, that a name means; none where it is unknown
 abbrev pub place_of : Model → Letter → Name → Option ℕ
 place_of m X name = column_place m name
 place_of m Y name = row_place m name
 place_of m R name = column_place m name
 
--- a list of n zeros
+-- the list of n zeros
 abbrev pub zeros : ℕ → List ℚ
 zeros n = replicate n 0ℚ
 
--- the certificate of this kind in which each number is v
+-- the certificate of this kind, of the sizes of the model, in which each number is v; for a clash the number of the
+-- column of that name, or the fault that the model has none of it
 unfoldable pub blank : {F : Type 0} → F → Model → ExactKind → Settled (Certificate (List F))
 blank v m kind.Optimal = Ok (Optimal (replicate (width m) v) (replicate (height m) v))
 blank v m kind.Infeasible = Ok (Infeasible (replicate (height m) v))
 blank v m kind.Unbounded = Ok (Unbounded (replicate (width m) v) (replicate (width m) v))
 blank v m (kind.Clash name) = known (column_place m name) name >>= λ j. Ok (Clash j)
 
--- the certificate with v as the number of column or row k under this letter
+-- the certificate with v as the number of column or row k under this letter; unchanged where it has no such letter, or
+-- no such column or row
 abbrev pub with_value : {F : Type 0} → Letter → ℕ → F → Certificate (List F) → Certificate (List F)
 with_value X j v (Optimal x y) = Optimal (slice_set x j v) y
 with_value Y i v (Optimal x y) = Optimal x (slice_set y i v)
@@ -56,25 +58,26 @@ with_value X j v (Unbounded x r) = Unbounded (slice_set x j v) r
 with_value R j v (Unbounded x r) = Unbounded x (slice_set r j v)
 with_value letter k v cert = cert
 
--- two letters are the same
+-- whether two letters are the same
 abbrev pub same_letter : Letter → Letter → Bool
 same_letter X X = true
 same_letter Y Y = true
 same_letter R R = true
 same_letter a b = false
 
--- a part before has this letter and name already
+-- whether one of these parts has this letter and name
 abbrev pub is_given : {F : Type 0} → Letter → Name → List (PartOf F) → Bool
 is_given letter name parts = list_any (λ p. same_letter p.letter letter && same p.name name) parts
 
--- the certificate with one part more, or why that part does not fit
+-- the certificate with one part more, which changes nothing where the certificate has not its letter; or the fault that
+-- its name is unknown, or was given with its letter before
 unfoldable pub put : {F : Type 0} → Model → List (PartOf F) → PartOf F → Certificate (List F) →
     Settled (Certificate (List F))
 put m before p cert =
     known (place_of m p.letter p.name) p.name >>= λ k.
     if is_given p.letter p.name before then Err (Repeated p.name) else Ok (with_value p.letter k p.value cert)
 
--- the certificate with more parts, in order, up to the first whose name is unknown or was given before
+-- the certificate with these parts more, in order, or the first fault; `before` are the parts that it has
 abbrev pub put_all : {F : Type 0} → Model → List (PartOf F) → List (PartOf F) → Certificate (List F) →
     Settled (Certificate (List F))
 put_all m before [] cert = Ok cert

@@ -32,7 +32,7 @@ pub enum CertificateKind<N> {
     Clash(N),
 }
 
-/// A certificate as its text has it, without a model. Each part is one that the kind takes.
+/// A certificate as its text has it, without a model: what it is to show, and its parts.
 #[derive(Drop)]
 pub struct RawCertificate<N, P> {
     pub kind: CertificateKind<N>,
@@ -50,7 +50,7 @@ pub enum SettleFault<N: Debug> {
     Repeated(N),
 }
 
-/// What is given to show something of a model.
+/// What is given to show that a point is optimal, that no point is feasible, or that points get better without limit.
 #[derive(Drop)]
 pub enum Certificate<L> {
     /// A value for each column, and a multiplier for each row.
@@ -63,7 +63,7 @@ pub enum Certificate<L> {
     Unbounded { x: L, r: L },
 }
 
-/// What a certificate shows.
+/// What a certificate shows of a model: its optimal value, that no point is feasible, or that it is unbounded.
 #[derive(Clone, Copy)]
 pub enum Known<F> {
     /// The optimal value.
@@ -72,7 +72,7 @@ pub enum Known<F> {
     Unbounded,
 }
 
-/// Why a certificate shows nothing.
+/// Why a certificate shows nothing: a condition fails, or an operation is past the limit.
 #[derive(Clone, Copy)]
 pub enum CheckStop<F: Debug> {
     /// The number of the condition that fails.
@@ -89,7 +89,8 @@ impl<F: Debug> From<Past<F>> for CheckStop<F> {
     }
 }
 
-/// What a check of a certificate says.
+/// What a check of a certificate says: yes with what it shows, no with the number of the condition that fails, or the
+/// operation that is past the limit.
 #[derive(Clone, Copy)]
 pub enum Verdict<F: Debug> {
     Yes(Known<F>),

@@ -37,12 +37,14 @@ pub use certificate::{
 };
 pub use solve_end::SolveEnd;
 
-/// What an accepted certificate shows is true.
+/// What a certificate shows is true of the model, where the two meet the conditions: the value of its point is optimal,
+/// no point is feasible, or the model is unbounded.
 pub fn certificates_are_sound()
     ensures { (m : Model) (cert : Certificate (List ℚ)) → Checks m cert → Holds m (shown m cert) }
 {}
 
-/// Where the run says yes, at any limit, the conditions hold, it says what the certificate shows, and that is true.
+/// Where the checker's run accepts a certificate of the model's sizes, at any limit, the certificate meets the
+/// conditions, the run says what it shows, and that is true of the model.
 pub fn runs_are_sound()
     ensures truth { (limit : Option ℕ) (m : Model) (cert : Certificate (List ℚ)) (known : Known ℚ) →
         IsFor m cert → check_run limit m cert ≡ Ok known → Holds m known }
@@ -50,7 +52,8 @@ pub fn runs_are_sound()
         IsFor m cert → check_run limit m cert ≡ Ok known → Checks m cert × (known ≡ shown m cert) }
 {}
 
-/// At a limit the run is the run without one, or an operation is refused.
+/// At a limit the checker's run ends as the run without one, or with a refused operation. So it accepts each
+/// certificate that meets the conditions, unless an operation is refused.
 pub fn limits_only_refuse()
     ensures accepted { (limit : Option ℕ) (m : Model) (cert : Certificate (List ℚ)) →
         Checks m cert → Agrees (check_run limit m cert) (Ok (shown m cert)) }
@@ -58,12 +61,13 @@ pub fn limits_only_refuse()
         Agrees (check_run limit m cert) (check_run None m cert) }
 {}
 
-/// Where the conditions hold, the run without a limit says yes.
+/// Where a certificate meets the conditions, the checker's run without a limit accepts it and says what it shows.
 pub fn runs_are_complete()
     ensures { (m : Model) (cert : Certificate (List ℚ)) → Checks m cert → check_run None m cert ≡ Ok (shown m cert) }
 {}
 
-/// A certificate that parts make for a model has a number for each of its columns and rows.
+/// A certificate that parts make for a model has the model's sizes: as many numbers in each list as there are columns
+/// or rows, and a column that it names is one of the model's.
 pub fn settled_certificates_fit()
     ensures { (m : Model) (raw : ExactRaw) (cert : Certificate (List ℚ)) →
         certificate_for m raw ≡ Ok cert → IsFor m cert }

@@ -4,7 +4,7 @@ use crate::certificate::{Certificate, Known};
 use spec_exact::Past;
 use std::fmt::Debug;
 
-/// How a solve ends.
+/// How a solve ends: with an answer and its certificate, with an operation past the limit, or with its budget spent.
 #[derive(Drop)]
 pub enum SolveEnd<F: Debug, L, B> {
     /// With an answer, and the certificate that was accepted for it.
