@@ -78,6 +78,7 @@ not_named letter name own v h = by (eq_ℚ v 0ℚ)
 
 module _ (m : Model) (letter : Letter) (w : ℕ) (names : ℕ → Name)
     (known_names : AreNames m letter w names) (values : List ℚ) (long : length values ≡ w) where
+  -- where k is at least n, the parts of the first n names have none with name k
   not_given_below : (n k : ℕ) → n ≤ k → k < w → is_given letter (names k) (parts_below letter names values n) ≡ false
   not_given_below zero k h p = refl
   not_given_below (suc n) k h p =
@@ -86,6 +87,7 @@ module _ (m : Model) (letter : Letter) (w : ℕ) (names : ℕ → Name)
       ∙ ap₂ (λ (s t : Bool). s || t) (not_given_below n k (omega (arith, h)) p)
       (not_named letter (names k) (names n) (part values n) (known_names.distinct n k (omega (arith, h)) p))
 
+  -- the parts before and those of the first k names have none with name k and the letter
   not_given : (before : List ExactPart) (k : ℕ) → IsFree letter before → k < w →
       is_given letter (names k) (before ++ parts_below letter names values k) ≡ false
   not_given before k f p =
@@ -97,9 +99,11 @@ module _ (m : Model) (letter : Letter) (w : ℕ) (names : ℕ → Name)
   front : ℕ → List ℚ
   front n = take n values ++ zeros (w - n)
 
+  -- a list of zeros for the names from n on is a zero and the list for those behind n
   next_zero : (n : ℕ) → n < w → zeros (w - n) ≡ 0ℚ ∷ zeros (w - suc n)
   next_zero n h = let e : w - n ≡ suc (w - suc n) = omega (arith, h) in ap zeros e
 
+  -- the first n + 1 values with zeros behind are the first n, value n, and one zero fewer
   front_more : (n : ℕ) → n < w → front (suc n) ≡ take n values ++ part values n ∷ zeros (w - suc n)
   unfolding front
   front_more n h =
@@ -108,6 +112,7 @@ module _ (m : Model) (letter : Letter) (w : ℕ) (names : ℕ → Name)
       (ap (λ k. take k values) (sym e) ∙ take_more values n 0ℚ (omega (arith, h, long)))
       ∙ append_assoc (take n values) (part values n ∷ []) (zeros (w - suc n))
 
+  -- setting place n of the first n values with zeros behind to value n gives the first n + 1 with zeros behind
   front_set : (n : ℕ) → n < w → slice_set (front n) n (part values n) ≡ front (suc n)
   unfolding front
   front_set n h =
@@ -116,6 +121,7 @@ module _ (m : Model) (letter : Letter) (w : ℕ) (names : ℕ → Name)
       (length-take-le n values (omega (arith, h, long)))
       ∙ sym (front_more n h)
 
+  -- where value n is 0, the first n values with zeros behind are the first n + 1 with zeros behind
   front_same : (n : ℕ) → n < w → part values n ≡ 0ℚ → front n ≡ front (suc n)
   unfolding front
   front_same n h z =
@@ -123,12 +129,14 @@ module _ (m : Model) (letter : Letter) (w : ℕ) (names : ℕ → Name)
       ∙ ap (λ v. take n values ++ v ∷ zeros (w - suc n)) (sym z)
       ∙ sym (front_more n h)
 
+  -- all values, with no zero behind, are the values
   front_all : front w ≡ values
   unfolding front
   front_all =
       let none : w - w ≡ 0 = omega arith in
       ap₂ (λ xs n. xs ++ zeros n) (take_all w values (omega (arith, long))) none ∙ append-nil values
 
+  -- no value, with zeros behind, is zeros alone
   front_none : front 0 ≡ zeros w
   unfolding front
   front_none = let all : w - 0 ≡ w = omega arith in ap zeros all
@@ -137,6 +145,7 @@ module _ (m : Model) (letter : Letter) (w : ℕ) (names : ℕ → Name)
   module _ (fill : List ℚ → Certificate (List ℚ))
       (fills : (z : List ℚ) (k : ℕ) (v : ℚ) → with_value letter k v (fill z) ≡ fill (slice_set z k v))
       (before : List ExactPart) (free : IsFree letter before) where
+    -- putting the part of name n into the first n values gives the first n + 1 values
     put_one : (n : ℕ) → n < w →
         put_all m (before ++ parts_below letter names values n)
         (part_if letter (names n) (part values n)) (fill (front n)) ≡ Ok (fill (front (suc n)))
@@ -151,6 +160,7 @@ module _ (m : Model) (letter : Letter) (w : ℕ) (names : ℕ → Name)
             rw (known_names.places n h, not_given before n free h, fills (front n) n (part values n), front_set n h)
             refl
 
+    -- putting the parts of the first n names into zeros gives the first n values, with zeros behind
     put_below : (n : ℕ) → n ≤ w →
         put_all m before (parts_below letter names values n) (fill (front 0)) ≡ Ok (fill (front n))
     put_below zero h = refl
@@ -161,6 +171,7 @@ module _ (m : Model) (letter : Letter) (w : ℕ) (names : ℕ → Name)
         (part_if letter (names n) (part values n)) next) (put_below n (omega (arith, h)))
         ∙ put_one n (omega (arith, h))
 
+    -- putting the parts of all names into zeros gives the values
     pub filled : put_all m before (parts_below letter names values w) (fill (zeros w)) ≡ Ok (fill values)
     filled =
         ap (λ z. put_all m before (parts_below letter names values w) (fill z)) (sym front_none)

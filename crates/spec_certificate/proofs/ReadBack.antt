@@ -42,6 +42,7 @@ use Rattle.spec_certificate.proofs.WideWords.{wide_word}
 use Rattle.spec_certificate.proofs.NamesKnown.{AreNames, column_word, columns_named, rays_named, rows_named}
 use Rattle.spec_certificate.proofs.PartsPlaced.{put_more, free_at_first, free_behind, filled}
 
+-- the certificate of this kind with these parts, as its text has it
 abbrev raw_of : ExactKind → List ExactPart → ExactRaw
 raw_of kind parts = record { kind = kind; parts = parts }
 
@@ -64,31 +65,38 @@ clash_words name h =
     ∙ ap (λ ws. codes "CLASH" ∷ ws) (parts_word name h)
 
 module _ (read : Reading ℚ) (text : ℚ → List ℕ) where
+  -- fractions are written by this text of each
   abbrev write : Writing ℚ
   write = writing_of text
 
+  -- the line END ends the certificate that was read so far
   end_step : (raw : ExactRaw) → step_by read (Some raw) (Text (codes "END")) ≡ Done raw
   unfolding step_by is_end
   end_step raw = ap (words_step read (Some raw)) (one_word (codes "END") end_word)
 
+  -- the first line OPTIMAL opens an optimal certificate without parts
   optimal_step : step_by read None (Text (codes "OPTIMAL")) ≡ More (raw_of kind.Optimal [])
   unfolding step_by kind_of
   optimal_step = ap (words_step read None) (one_word (codes "OPTIMAL") (record { some = refl; printable = refl }))
 
+  -- the first line INFEASIBLE opens an infeasible certificate without parts
   infeasible_step : step_by read None (Text (codes "INFEASIBLE")) ≡ More (raw_of kind.Infeasible [])
   unfolding step_by kind_of
   infeasible_step = ap (words_step read None) (one_word (codes "INFEASIBLE") (record { some = refl; printable = refl }))
 
+  -- the first line UNBOUNDED opens an unbounded certificate without parts
   unbounded_step : step_by read None (Text (codes "UNBOUNDED")) ≡ More (raw_of kind.Unbounded [])
   unfolding step_by kind_of
   unbounded_step = ap (words_step read None) (one_word (codes "UNBOUNDED") (record { some = refl; printable = refl }))
 
+  -- the first line CLASH with a name opens a certificate of a clash of the column with this name
   clash_step : (name : List ℕ) → IsWord name →
       step_by read None (Text (codes "CLASH" ++ 32 ∷ name)) ≡ More (raw_of (kind.Clash name) [])
   unfolding step_by kind_of
   clash_step name h = ap (words_step read None) (clash_words name h)
 
-  -- the lines of a whole certificate, from those before END
+  -- where the lines of a certificate before END lead to its parts, all its lines spell it with these parts, whatever
+  -- lines follow
   whole : (m : Model) (cert : Certificate (List ℚ)) (raw : ExactRaw) →
       LeadsBy read None (map Text (kind_text m cert ∷ all_part_lines_by write m cert)) (Some raw)
       → (more : List (Line (List ℕ))) → SpellsBy read (map Text (certificate_lines_by write m cert) ++ more) raw
@@ -100,7 +108,8 @@ module _ (read : Reading ℚ) (text : ℚ → List ℕ) where
       (ends read (map Text (kind_text m cert ∷ all_part_lines_by write m cert)) more
       (Text (codes "END")) (Some raw) raw l (end_step raw))
 
-  -- two letters, one after the other
+  -- the lines of the parts with one letter, and then of those with another, lead to the certificate with all of these
+  -- parts behind its own
   two_lead : (raw : ExactRaw) (a b : Letter) (names others : ℕ → List ℕ) (xs ys : List ℚ) (n k : ℕ) →
       takes raw.kind a ≡ true → takes raw.kind b ≡ true
       → ((i : ℕ) → i < n → IsWord (names i)) → ((i : ℕ) → i < n → IsReadable read text (part xs i)) →
@@ -114,13 +123,15 @@ module _ (read : Reading ℚ) (text : ℚ → List ℕ) where
       (goes_on read (Some raw) (Some one) (Some (with_parts one (parts_below b others ys k))) _ _
       (parts_lead read text raw a names xs n s h p) (parts_lead read text one b others ys k t i q))
 
+  -- where the texts of all n numbers of a list are read back, so is that of each of the first n
   each_at : (xs : List ℚ) (n : ℕ) → length xs ≡ n → All (IsReadable read text) xs → (k : ℕ) → k < n →
       IsReadable read text (part xs k)
   each_at xs n e h k p = h k 0ℚ (omega (arith, e, p))
 
   -- ---- the four kinds
 
-  -- with a list for the columns, below the letter X, and a list for n names, below another letter
+  -- a certificate that has a list for the columns, with the letter X, and one for n names, with another letter, is read
+  -- back
   two_back : (m : Model) (k : ExactKind) (b : Letter) (names : ℕ → Name) (n : ℕ)
       (cert : List ℚ → List ℚ → Certificate (List ℚ)) (x y : List ℚ) → IsModel m → AreNames m b n names →
       (length x ≡ width m) × (length y ≡ n) → All (IsReadable read text) x × All (IsReadable read text) y →
@@ -154,6 +165,7 @@ module _ (read : Reading ℚ) (text : ℚ → List ℕ) where
             ∙ filled m b n names named y f.1 (cert x) (fills_y x) xs (free_behind b X (column_name m) x (width m) apart);
       }
 
+  -- an optimal certificate of a kept model, whose numbers' texts are read back, is read back
   optimal_back : (m : Model) (x y : List ℚ) → IsModel m → IsFor m (Optimal x y) → AllNumbers (IsReadable read text) (Optimal x y) →
       IsReadBackBy read write m (Optimal x y)
   unfolding blank
@@ -161,6 +173,7 @@ module _ (read : Reading ℚ) (text : ℚ → List ℕ) where
       two_back m kind.Optimal Y (row_name m) (height m) Optimal x y h (rows_named m h) f n refl refl refl
       optimal_step refl refl (λ u z j v. refl) (λ u z j v. refl)
 
+  -- an infeasible certificate of a kept model, whose numbers' texts are read back, is read back
   infeasible_back : (m : Model) (y : List ℚ) → IsModel m → IsFor m (Infeasible y) → AllNumbers (IsReadable read text) (Infeasible y) →
       IsReadBackBy read write m (Infeasible y)
   unfolding blank certificate_by
@@ -180,6 +193,7 @@ module _ (read : Reading ℚ) (text : ℚ → List ℕ) where
             (λ z. Infeasible z) (λ z k v. refl) [] (free_at_first Y);
       }
 
+  -- an unbounded certificate of a kept model, whose numbers' texts are read back, is read back
   unbounded_back : (m : Model) (x r : List ℚ) → IsModel m → IsFor m (Unbounded x r) →
       AllNumbers (IsReadable read text) (Unbounded x r) → IsReadBackBy read write m (Unbounded x r)
   unfolding blank
@@ -187,6 +201,7 @@ module _ (read : Reading ℚ) (text : ℚ → List ℕ) where
       two_back m kind.Unbounded R (column_name m) (width m) Unbounded x r h (rays_named m h) f n refl refl refl
       unbounded_step refl refl (λ u z j v. refl) (λ u z j v. refl)
 
+  -- the certificate of a clash in a kept model is read back
   clash_back : (m : Model) (j : ℕ) → IsModel m → IsFor {F = ℚ} m (Clash j) → IsReadBackBy read write m (Clash j)
   unfolding blank certificate_by
   clash_back m j h f =
@@ -197,6 +212,7 @@ module _ (read : Reading ℚ) (text : ℚ → List ℕ) where
         settled = rw (column_at m h j f) refl;
       }
 
+  -- a certificate of a kept model, whose numbers' texts are read back, is read back
   pub read_back_by : (m : Model) (cert : Certificate (List ℚ)) → IsModel m → IsFor m cert →
       AllNumbers (IsReadable read text) cert → IsReadBackBy read write m cert
   read_back_by m (Optimal x y) h f n = optimal_back m x y h f n

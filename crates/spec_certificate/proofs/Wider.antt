@@ -23,6 +23,7 @@ use Rattle.spec_certificate.specs.WideText.{wide, wide_in}
 
 module _ {F : Type 0} (read other : Reading F)
     (wider : (text : List ℕ) (v : F) → read text ≡ Some v → other text ≡ Some v) where
+  -- the wider reading makes the same part of a text, or the narrower one makes none
   valued_same : (letter : Letter) (name : Name) (text : List ℕ) →
       (valued letter name (other text) ≡ valued letter name (read text)) ⊎ (valued letter name (read text) ≡ None)
   valued_same letter name text = by (read text) refl
@@ -32,6 +33,7 @@ module _ {F : Type 0} (read other : Reading F)
       by None e = inr (ap (valued letter name) e)
       by (Some v) e = inl (ap (valued letter name) (wider text v e ∙ sym e))
 
+  -- the wider reading makes the same part of a letter, name and text, or the narrower one makes none
   lettered_same : (kind : ExactKind) (o : Option Letter) (name : Name) (text : List ℕ) →
       (lettered other kind o name text ≡ lettered read kind o name text) ⊎ (lettered read kind o name text ≡ None)
   lettered_same kind None name text = inl refl
@@ -43,6 +45,7 @@ module _ {F : Type 0} (read other : Reading F)
       by true = valued_same letter name text
       by false = inl refl
 
+  -- the wider reading makes the same part of a line's words, or the narrower one makes none
   part_same : (kind : ExactKind) (words : List (List ℕ)) →
       (part_by other kind words ≡ part_by read kind words) ⊎ (part_by read kind words ≡ None)
   unfolding part_by
@@ -52,6 +55,7 @@ module _ {F : Type 0} (read other : Reading F)
   part_same kind (a ∷ b ∷ c ∷ []) = lettered_same kind (letter_of a) b c
   part_same kind (a ∷ b ∷ c ∷ d ∷ words) = inl refl
 
+  -- a line adds the same part by the wider reading, or does not fit by the narrower one
   added_same : (raw : RawOf F) (words : List (List ℕ)) →
       (with_part raw (part_by other raw.kind words) ≡ with_part raw (part_by read raw.kind words))
       ⊎ (with_part raw (part_by read raw.kind words) ≡ Unfit)
@@ -63,6 +67,7 @@ module _ {F : Type 0} (read other : Reading F)
       by (inl e) = inl (ap (with_part raw) e)
       by (inr e) = inr (ap (with_part raw) e)
 
+  -- a line's words lead to the same by the wider reading, or do not fit by the narrower one
   words_same : (s : Option (RawOf F)) (words : List (List ℕ)) →
       (words_step other s words ≡ words_step read s words) ⊎ (words_step read s words ≡ Unfit)
   words_same None words = inl refl
@@ -75,6 +80,7 @@ module _ {F : Type 0} (read other : Reading F)
       by true = inl refl
       by false = added_same raw words
 
+  -- a line leads to the same by the wider reading, or does not fit by the narrower one
   pub step_same : (s : Option (RawOf F)) (line : Line (List ℕ)) →
       (step_by other s line ≡ step_by read s line) ⊎ (step_by read s line ≡ Unfit)
   unfolding step_by
@@ -83,11 +89,12 @@ module _ {F : Type 0} (read other : Reading F)
   step_same s End = inl refl
   step_same s Over = inl refl
 
-  -- what follows a line
+  -- the judgement of the lines from number n on, behind a certificate that was read so far
   abbrev after : Reading F → ℕ → List (Line (List ℕ)) → RawOf F → JudgementOf F
   after how n lines raw = judge_by how (Some raw) n lines
 
-  -- by where the line leads
+  -- where the lines behind a line spell by the wider reading what they spell by the narrower one, so does the outcome
+  -- of the line with them
   on_outcome : (lines : List (Line (List ℕ))) (n : ℕ) (raw : RawOf F) →
       ((r : RawOf F) → after read (n + 1) lines r ≡ Spelled raw → after other (n + 1) lines r ≡ Spelled raw) →
       (o : OutcomeOf F) → settled n (after read (n + 1) lines) o ≡ Spelled raw →
@@ -96,9 +103,12 @@ module _ {F : Type 0} (read other : Reading F)
   on_outcome lines n raw more (Done r) e = e
   on_outcome lines n raw more Unfit e = cc
 
+  -- a refusal is not a certificate that is spelled
   no_refusal : (n : ℕ) (raw : RawOf F) → Refused n ≡ Spelled raw → ⊥
   no_refusal n raw e = cc
 
+  -- where the lines behind a line spell the same by both readings, so do they with this line, if the narrower one
+  -- spells
   on_line : (line : Line (List ℕ)) (lines : List (Line (List ℕ))) (s : Option (RawOf F)) (n : ℕ) (raw : RawOf F) →
       ((r : RawOf F) → after read (n + 1) lines r ≡ Spelled raw → after other (n + 1) lines r ≡ Spelled raw) →
       judge_by read s n (line ∷ lines) ≡ Spelled raw → judge_by other s n (line ∷ lines) ≡ Spelled raw
@@ -110,6 +120,7 @@ module _ {F : Type 0} (read other : Reading F)
           ap (settled n (after other (n + 1) lines)) same ∙ on_outcome lines n raw more (step_by read s line) e
       by (inr unfit) = absurd (no_refusal n raw (sym (ap (settled n (after read (n + 1) lines)) unfit) ∙ e))
 
+  -- lines that spell a certificate by the narrower reading spell it by the wider one
   pub spelled_same : (lines : List (Line (List ℕ))) (s : Option (RawOf F)) (n : ℕ) (raw : RawOf F) →
       judge_by read s n lines ≡ Spelled raw → judge_by other s n lines ≡ Spelled raw
   spelled_same [] s n raw e = cc

@@ -15,17 +15,18 @@ use Rattle.spec_certificate.specs.NarrowText.{narrow}
 use Rattle.spec_certificate.specs.WideText.{wide}
 use Rattle.spec_certificate.specs.TextWritten.{Writing, narrow_writing, wide_writing, certificate_lines_by}
 
--- the lines of the written text, with more lines after them, spell parts that are this certificate of the model
+-- the lines that this certificate of the model is written as, whatever lines follow,
+-- are read as parts that make the same certificate
 pub record IsReadBackBy (read : Reading ℚ) (write : Writing ℚ) (m : Model) (cert : Certificate (List ℚ)) : Type 0 where
   pub raw : ExactRaw
   pub spelled : (more : List (Line (List ℕ))) → SpellsBy read (map Text (certificate_lines_by write m cert) ++ more) raw
   pub settled : certificate_for m raw ≡ Ok cert
 
--- a certificate is read back, with numbers of 127 bits
+-- the lines that the certificate is written as, with numbers of 127 bits, are read as the same certificate
 abbrev pub IsReadBack : Model → Certificate (List ℚ) → Type 0
 IsReadBack = IsReadBackBy narrow narrow_writing
 
--- a certificate is read back, with numbers of any width
+-- the lines that the certificate is written as, with numbers of any width, are read as the same certificate
 abbrev pub IsWidelyReadBack : Model → Certificate (List ℚ) → Type 0
 IsWidelyReadBack = IsReadBackBy wide wide_writing
 
@@ -36,6 +37,6 @@ AllNumbers P (Infeasible y) = All P y
 AllNumbers P (Clash j) = Unit {0}
 AllNumbers P (Unbounded x r) = All P x × All P r
 
--- the text of v has at most as many bytes as a power of ten may have zeros
+-- the text of v has at most 16,384 bytes, as many as a power of ten may have zeros
 abbrev pub IsShortNumber : ℚ → Type 0
 IsShortNumber v = length (wide_text v) ≤ most_zeros

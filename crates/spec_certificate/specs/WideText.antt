@@ -10,6 +10,6 @@ wide_in (Is value) = Some value
 wide_in Shape = None
 wide_in Far = None
 
--- how the text of a number of any width is read
+-- the number of any width that a text spells; none where it spells none, or its exponent is too large
 abbrev pub wide : Reading ℚ
 wide text = wide_in (wide_of text)

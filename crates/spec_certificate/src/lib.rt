@@ -31,19 +31,21 @@ ghost use Rattle.spec_certificate.specs.TextRead.{IsReadBack, IsWidelyReadBack, 
 
 pub use progress::Progress;
 
-/// Each text spells one certificate, or one line is the first that does not fit.
+/// Each text either spells one certificate, or is refused at one line; never both. This line is the first that does not
+/// fit, or the one that would come next, where the lines end before END.
 pub fn certificate_texts_are_judged()
     ensures { (read : Reading ℚ) (lines : List (Line (List ℕ))) → IsJudged read lines }
 {}
 
-/// The text of a certificate is read as that certificate, whatever follows the text.
+/// The lines that a certificate of a kept model is written as, with numbers of at most 127 bits, are read as that
+/// certificate, whatever lines follow.
 pub fn written_certificates_are_read()
     ensures { (m : Model) (cert : Certificate (List ℚ)) → IsModel m →
         IsFor m cert → IsNarrowCertificate cert → IsReadBack m cert }
 {}
 
-/// Reading the written text of a certificate with numbers of any width gives the same certificate, where the text of
-/// none of them has more bytes than a power of ten may have zeros.
+/// The lines that a certificate of a kept model is written as, with numbers of any width, are read as that certificate.
+/// No number's text may have more bytes than a power of ten may have zeros.
 pub fn written_wide_certificates_are_read()
     ensures { (m : Model) (cert : Certificate (List ℚ)) → IsModel m →
         IsFor m cert → AllNumbers IsShortNumber cert → IsWidelyReadBack m cert }
