@@ -11,14 +11,17 @@ use Rattle.spec_simplex.specs.Start.{by_column}
 use Rattle.spec_simplex.proofs.ListIndices.{by_lt}
 
 module _ {A : Type 0} (f : Form) (s : A) (l a : ℕ → A) where
+  -- of a structural column `by_column` gives the first of its three things
   pub structural_at : (k : ℕ) → k < f.cols → by_column f k s l a ≡ s
   structural_at k h = rw (lt-ltb k f.cols h) refl
 
+  -- of row i's logical column `by_column` gives the second of its three things, for i
   pub logical_at : (i : ℕ) → i < f.rows → by_column f (f.cols + i) s l a ≡ l i
   logical_at i h =
       rw (le-ltb (f.cols + i) f.cols (omega arith), lt-ltb (f.cols + i) (f.cols + f.rows) (omega (arith, h)))
       (let e : f.cols + i - f.cols ≡ i = omega arith in ap l e)
 
+  -- of row i's artificial column `by_column` gives the third of its three things, for i
   pub artificial_at : (i : ℕ) → by_column f (f.cols + f.rows + i) s l a ≡ a i
   artificial_at i =
       rw

@@ -48,6 +48,7 @@ way_by_none AtZero d Down e c i = by (lt_ℚ d 0ℚ) e
     by true e = let z : Some Up ≡ None = e in cc
     by false e = let z : None ≡ Some Down = sym e ∙ rw (lt_test 0ℚ d i) refl in cc
 
+-- a column of status s and reduced cost d can move the way w, and lowers the cost as it does
 record Goes (w : Way) (s : Status) (d : ℚ) : Type 0 where
   status : CanMove w s
   improves : Improves w d
@@ -83,17 +84,20 @@ way_by_some AtZero d way e = by (lt_ℚ d 0ℚ) (lt_ℚ 0ℚ d) refl refl e
 
 -- ---- a column of a tableau
 module _ (b : Bounds) (t : Tableau) (keeps : KeepsBounds b t) where
+  -- a structural or logical column whose bounds test as fixed is one that the bounds fix
   fixed_at : (k : ℕ) → k < form_columns t → is_fixed (lower_at t k) (upper_at t k) ≡ true → IsFixed b k
   fixed_at k l e =
       let v = fixed_means (lower_at t k) (upper_at t k) e in
       let l' : k < all_columns t = omega (arith, l) in
       (v.0, sym (keeps.lower k l') ∙ v.1, sym (keeps.upper k l) ∙ v.2)
 
+  -- a structural or logical column that the bounds fix has bounds that test as fixed
   not_fixed_at : (k : ℕ) → k < form_columns t → IsFixed b k → is_fixed (lower_at t k) (upper_at t k) ≡ true
   not_fixed_at k l v =
       let l' : k < all_columns t = omega (arith, l) in
       fixed_test (lower_at t k) (upper_at t k) v.0 (keeps.lower k l' ∙ v.1) (keeps.upper k l ∙ v.2)
 
+  -- where the test of column k gives no direction, column k is not eligible in any
   pub none_at : (k : ℕ) → way_at t k ≡ None → (w : Way) → ¬ (IsEligible b (table_of t) w k)
   none_at k e w el = by (is_fixed (lower_at t k) (upper_at t k)) refl e
     where
@@ -105,6 +109,7 @@ module _ (b : Bounds) (t : Tableau) (keeps : KeepsBounds b t) where
       by true c e = el.may_enter.1 (fixed_at k before c)
       by false c e = way_by_none (status_at t k) (reduced_at t k) w e el.status el.improves
 
+  -- where the test of column k gives a direction, the column is eligible in it
   eligible_at : (k : ℕ) (way : Way) → k < all_columns t → way_at t k ≡ Some way → IsEligible b (table_of t) way k
   eligible_at k way k_in e = by (is_fixed (lower_at t k) (upper_at t k)) refl e
     where
@@ -126,11 +131,13 @@ module _ (b : Bounds) (t : Tableau) (keeps : KeepsBounds b t) where
           (keeps.lower k k_in ∙ keeps.zero k l k_in) (keeps.fixed k l k_in s) in cc))
 
   -- ---- the least of many
+  -- e is the first column that may enter, it is below n, and its way is the one in which it may
   record EntersBelow (n : ℕ) (e : Entering) : Type 0 where
     inside : e.col < n
     way_there : way_at t e.col ≡ Some e.direction
     least : (k : ℕ) → k < e.col → way_at t k ≡ None
 
+  -- where no column below n is found to enter, the test of each of them gives no direction
   none_below : (n : ℕ) → entering_below t n ≡ None → (k : ℕ) → k < n → way_at t k ≡ None
   none_below zero h k l = absurd (let z : ⊥ = omega (arith, l) in z)
   none_below (suc n) h k l = by (entering_below t n) (way_at t n) refl h (λ p z. none_below n p k (omega (arith, l, z)))
@@ -142,6 +149,7 @@ module _ (b : Bounds) (t : Tableau) (keeps : KeepsBounds b t) where
           let z : ◌≡◌ {A = Option Entering} (Some (record { col = n; direction = way })) None = h in cc
       by None None q h before = by_eq k n (λ z. ap (way_at t) z ∙ q) (before refl)
 
+  -- where a column below n is found to enter, it is the first one that may
   some_below : (n : ℕ) (x : Entering) → entering_below t n ≡ Some x → EntersBelow n x
   some_below zero x h = let z : None ≡ Some x = h in cc
   some_below (suc n) x h = by (entering_below t n) (way_at t n) refl refl h (λ p. some_below n x p)
@@ -158,9 +166,11 @@ module _ (b : Bounds) (t : Tableau) (keeps : KeepsBounds b t) where
           subst (EntersBelow (suc n)) z
           (record { inside = omega arith; way_there = q; least = λ k l. none_below n p k l })
 
+  -- where the run finds no entering column, no column is eligible in any direction
   pub no_entering : entering t ≡ None → (w : Way) (k : ℕ) → k < all_columns t → ¬ (IsEligible b (table_of t) w k)
   no_entering h w k l = none_at k (none_below (all_columns t) h k l) w
 
+  -- the entering column that the run finds is the one that enters by Bland's rule
   pub an_entering : (x : Entering) → entering t ≡ Some x → Enters (all_columns t) b (table_of t) x.direction x.col
   an_entering x h =
       let there : EntersBelow (all_columns t) x = some_below (all_columns t) x h in

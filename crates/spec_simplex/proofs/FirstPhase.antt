@@ -77,17 +77,21 @@ cost_positive (Below g) a i n = subst (λ z. 0ℚ <ℚ z) (sym (one-*ℚ a)) (po
 cost_positive (Above g) a i n = subst (λ z. 0ℚ <ℚ z) (sym (one-*ℚ a)) (positive a i.lower n)
 
 module _ (f : Form) (starts : List (RowStart ℚ)) where
+  -- how many columns a tableau of the form f has: structural, logical and artificial ones
   abbrev n : ℕ
   n = f.cols + f.rows + f.rows
 
+  -- the cost of each column in phase one, by how the rows begin
   abbrev costs : ℕ → ℚ
   costs = cost_at (first_costs f starts)
 
+  -- in phase one each structural and each logical column has the cost 0
   pub cost_before : (k : ℕ) → k < f.cols + f.rows → costs k ≡ 0ℚ
   cost_before k p =
       get_or_append_left (replicate (f.cols + f.rows) 0ℚ) (map first_cost starts) 0ℚ k
       (omega (arith, p, length-replicate (f.cols + f.rows) 0ℚ)) ∙ get_or-replicate (f.cols + f.rows) k 0ℚ 0ℚ p
 
+  -- the cost of the artificial column of row i in phase one is the one of the row's start
   cost_after : length starts ≡ f.rows → (i : ℕ) → i < f.rows →
       costs (f.cols + f.rows + i) ≡ first_cost (start_at starts i)
   cost_after all i p =
@@ -95,7 +99,8 @@ module _ (f : Form) (starts : List (RowStart ℚ)) where
       ∙ get_or-append-add (replicate (f.cols + f.rows) 0ℚ) (map first_cost starts) i 0ℚ
       ∙ get_or-map first_cost starts i (Within 0ℚ) 0ℚ (omega (arith, p, all))
 
-  -- what the costs sum up to at numbers z
+  -- the costs of phase one times numbers z sum up to the sum, over the rows, of the artificial column's cost times its
+  -- number
   costs_sum : length starts ≡ f.rows → (z : ℕ → ℚ) →
       sum_below n (λ k. costs k *ℚ z k) ≡ sum_below f.rows (λ i. first_cost (start_at starts i) *ℚ z
       (f.cols + f.rows + i))
@@ -115,22 +120,28 @@ module _ (f : Form) (starts : List (RowStart ℚ)) (all : length starts ≡ f.ro
     × (b.upper (f.cols + f.rows + i) ≡ artificial_upper (start_at starts i)))
     (t : Table) (g : IsTableau f.rows (f.cols + f.rows + f.rows) (form_rows f (signs_of starts))
     (cost_at (first_costs f starts)) b t) where
+  -- how many structural columns the form f has
   abbrev w : ℕ
   w = f.cols
 
+  -- how many rows the form f has
   abbrev r : ℕ
   r = f.rows
 
+  -- how many columns a tableau of the form f has: structural, logical and artificial ones
   abbrev size : ℕ
   size = f.cols + f.rows + f.rows
 
+  -- the equations of the form f, with the signs of the artificials by how the rows begin
   abbrev F : ℕ → ℕ → ℚ
   F = form_rows f (signs_of starts)
 
+  -- the cost of each column in phase one, by how the rows begin
   abbrev priced : ℕ → ℚ
   priced = cost_at (first_costs f starts)
 
   -- ---- phase one ends
+  -- in phase one no entering column goes on without end, whichever way it moves
   pub never_goes_on : (way : Way) (j : ℕ) → ¬ (GoesOn r size b t way j)
   never_goes_on way j e =
       clash_ℚ (sum_below size (λ k. priced k *ℚ ray r t way j k)) 0ℚ (falls r size F priced b t g way j e)
@@ -144,17 +155,19 @@ module _ (f : Form) (starts : List (RowStart ℚ)) (all : length starts ≡ f.ro
 
   module _ (within : IsWithin (f.cols + f.rows + f.rows) b t) (r0 : ℕ) (r0_in : r0 < f.rows)
       (not_zero : ¬ (t.value (f.cols + f.rows + r0) ≡ 0ℚ)) where
+    -- the reduced costs of the table t
     abbrev d : ℕ → ℚ
     d = t.reduced
 
+    -- the values of the table t
     abbrev v : ℕ → ℚ
     v = t.value
 
-    -- what the artificials cost
+    -- the cost of phase one at the table t: the sum over the rows of the cost of the artificial times its value
     U : ℚ
     U = sum_below r (λ i. first_cost (start_at starts i) *ℚ v (w + r + i))
 
-    -- a nonbasic artificial is 0, and a basic one has no reduced cost
+    -- the reduced cost of each artificial column times its value is 0
     no_part : (i : ℕ) → i < r → d (w + r + i) *ℚ v (w + r + i) ≡ 0ℚ
     no_part i p =
         by_basic (t.status (w + r + i))
@@ -166,6 +179,7 @@ module _ (f : Form) (starts : List (RowStart ℚ)) (all : length starts ≡ f.ro
         (subst (λ o. (o ≡ None) ⊎ (o ≡ Some 0ℚ)) (sym (artificial i p).1) (top_of (start_at starts i))) s
         (g.stands (w + r + i) (omega (arith, p)))) ∙ *ℚ_zero _)
 
+    -- the reduced costs times the values of the structural and logical columns sum up to the cost of phase one
     balance : sum_below w (λ j. d j *ℚ v j) +ℚ sum_below r (λ i. d (w + i) *ℚ v (w + i)) ≡ U
     unfolding U
     balance =
@@ -175,17 +189,21 @@ module _ (f : Form) (starts : List (RowStart ℚ)) (all : length starts ≡ f.ro
         ∙ costs_agree r size F priced d v g.costs.weights g.costs.less g.solves
         ∙ costs_sum f starts all v
 
+    -- the value of each artificial column is within 0 and the upper bound that it has by how its row begins
     inside_at : (i : ℕ) → i < r → IsInside (Some 0ℚ) (artificial_upper (start_at starts i)) (v (w + r + i))
     inside_at i p =
         subst₂ (λ l u. IsInside l u (v (w + r + i)))
         (artificial i p).0 (artificial i p).1 (within (w + r + i) (omega (arith, p)))
 
+    -- the cost of phase one is above 0, as one artificial is not 0
     above_zero : 0ℚ <ℚ U
     unfolding U
     above_zero =
         sum_positive r _ (λ i p. cost_least (start_at starts i) (v (w + r + i)) (inside_at i p).lower) r0 r0_in
         (cost_positive (start_at starts r0) (v (w + r + r0)) (inside_at r0 r0_in) not_zero)
 
+    -- where an artificial is not 0, the reduced costs times the values of the structural and logical columns sum up to
+    -- more than 0
     pub balance_positive : 0ℚ <ℚ (sum_below f.cols (λ j. t.reduced j *ℚ t.value j)
         +ℚ sum_below f.rows (λ i. t.reduced (f.cols + i) *ℚ t.value (f.cols + i)))
     balance_positive = subst (λ z. 0ℚ <ℚ z) (sym balance) above_zero

@@ -160,53 +160,68 @@ module _ (f : Form) (proper : IsProper f) (starts : List (RowStart ℚ)) (all : 
     (begins : (i : ℕ) → i < f.rows →
     RowBegins (form_lower f (f.cols + i)) (form_upper f (f.cols + i)) (first_sum f i) (start_at starts i))
     (reduced : List ℚ) where
+  -- the tableau of the start, by how the rows begin, with these reduced costs
   abbrev t : Tableau
   t = with_reduced (begun f starts) reduced
 
+  -- how many columns the tableau of the start has: structural, logical and artificial ones
   abbrev n : ℕ
   n = f.cols + f.rows + f.rows
 
+  -- how row i begins
   abbrev s : ℕ → RowStart ℚ
   s i = start_at starts i
 
+  -- the equations of the form f, with the signs of the artificials by how the rows begin
   abbrev F : Matrix
   F = form_rows f (signs_of starts)
 
+  -- the entry of the logical column of row i in that row of the first tableau: 1 or -1
   abbrev sign_at : ℕ → ℚ
   sign_at i = logical_sign (start_at starts i)
 
   -- ---- reading the lists
+  -- row i of the first tableau is `start_row` of how the rows begin
   row_is : (i : ℕ) → i < f.rows → get_or t.entries i [] ≡ start_row f starts i
   row_is i h = get_or-made f.rows (start_row f starts) [] i h
 
+  -- row i of the first tableau has an entry for each column
   row_length : (i : ℕ) → i < f.rows → length (get_or t.entries i []) ≡ n
   row_length i h = ap length (row_is i h) ∙ length-made n (start_entry f (s i) i)
 
+  -- each entry of the first tableau is the one that its row's start gives
   entry_is : (i k : ℕ) → i < f.rows → k < n → entry_at t i k ≡ start_entry f (s i) i k
   entry_is i k h l = ap (λ row. get_or row k 0ℚ) (row_is i h) ∙ get_or-made n (start_entry f (s i) i) 0ℚ k l
 
+  -- the basic column of position i of the first tableau is `start_basic`
   basic_is : (i : ℕ) → i < f.rows → basic_at t i ≡ start_basic f starts i
   basic_is i h = get_or-made f.rows (start_basic f starts) 0 i h
 
+  -- the value of column k of the first tableau is `start_value`
   value_is : (k : ℕ) → k < n → value_at t k ≡ start_value f starts k
   value_is k h = get_or-made n (start_value f starts) 0ℚ k h
 
+  -- the status of column k of the first tableau is `start_status`
   status_is : (k : ℕ) → k < n → status_at t k ≡ start_status f starts k
   status_is k h = get_or-made n (start_status f starts) Basic k h
 
+  -- the first tableau has the form's lower bound of each structural and logical column
   lower_before : (k : ℕ) → k < f.cols + f.rows → lower_at t k ≡ form_lower f k
   lower_before k h = get_or_append_left f.lower (replicate f.rows (Some 0ℚ)) None k (omega (arith, h, proper.all_lower))
 
+  -- the first tableau has the form's upper bound of each structural and logical column
   upper_before : (k : ℕ) → k < f.cols + f.rows → upper_at t k ≡ form_upper f k
   upper_before k h =
       get_or_append_left f.upper (map artificial_upper starts) None k (omega (arith, h, proper.all_upper))
 
+  -- in the first tableau the lower bound of each artificial column is 0
   lower_after : (r : ℕ) → r < f.rows → lower_at t (f.cols + f.rows + r) ≡ Some 0ℚ
   lower_after r h =
       ap (λ k. get_or (f.lower ++ replicate f.rows (Some 0ℚ)) (k + r) None) (sym proper.all_lower)
       ∙ get_or-append-add f.lower (replicate f.rows (Some 0ℚ)) r None
       ∙ get_or-replicate f.rows r (Some 0ℚ) None h
 
+  -- in the first tableau the upper bound of the artificial of row r is the one by how the row begins
   upper_after : (r : ℕ) → r < f.rows → upper_at t (f.cols + f.rows + r) ≡ artificial_upper (s r)
   upper_after r h =
       ap (λ k. get_or (f.upper ++ map artificial_upper starts) (k + r) None) (sym proper.all_upper)
@@ -214,20 +229,24 @@ module _ (f : Form) (proper : IsProper f) (starts : List (RowStart ℚ)) (all : 
       ∙ get_or-map artificial_upper starts r (Within 0ℚ) None (omega (arith, h, all))
 
   -- ---- the rows
+  -- the entry of row i of the first tableau in a structural column is that of its coefficient, by how the row begins
   start_structural : (i k : ℕ) → k < f.cols → start_entry f (s i) i k ≡ structural_entry (s i) (form_entry f i k)
   start_structural i k =
       structural_at f (structural_entry (s i) (form_entry f i k)) (λ r. one_at i r (sign_at i)) (λ r. one_at i r 1ℚ) k
 
+  -- the entry of row i of the first tableau in row r's logical column is the sign of the logical where r is i, else 0
   start_logical : (i r : ℕ) → r < f.rows → start_entry f (s i) i (f.cols + r) ≡ one_at i r (sign_at i)
   start_logical i r =
       logical_at f (structural_entry (s i) (form_entry f i (f.cols + r)))
       (λ r. one_at i r (sign_at i)) (λ r. one_at i r 1ℚ) r
 
+  -- the entry of row i of the first tableau in row r's artificial column is 1 where r is i, else 0
   start_artificial : (i r : ℕ) → start_entry f (s i) i (f.cols + f.rows + r) ≡ one_at i r 1ℚ
   start_artificial i r =
       artificial_at f (structural_entry (s i) (form_entry f i (f.cols + f.rows + r)))
       (λ r. one_at i r (sign_at i)) (λ r. one_at i r 1ℚ) r
 
+  -- row i of the first tableau is the equation of row i times the sign of its logical
   signed : (i k : ℕ) → i < f.rows → start_entry f (s i) i k ≡ sign_at i *ℚ F i k
   signed i k h =
       by_kind f.cols f.rows k
@@ -241,24 +260,29 @@ module _ (f : Form) (proper : IsProper f) (starts : List (RowStart ℚ)) (all : 
       ∙ sym (twice (sign_at i) (delta i r) (sign_square (s i)))
       ∙ ap (λ a. sign_at i *ℚ a) (sym (row_artificial f (signs_of starts) i r))))
 
+  -- row i of the first tableau has the entry 0 past all columns
   entry_past : (i k : ℕ) → i < f.rows → n ≤ k → entry_at t i k ≡ 0ℚ
   entry_past i k h l = past_row t.entries i k n (row_length i h) l
 
+  -- each entry of the first tableau is the sign of its row times the equation's entry
   entry_sign : (i k : ℕ) → i < f.rows → entry_at t i k ≡ sign_at i *ℚ F i k
   entry_sign i k h =
       by_lt k n
       (λ l. entry_is i k h l ∙ signed i k h)
       (λ l. entry_past i k h l ∙ sym (ap (λ a. sign_at i *ℚ a) (row_past f (signs_of starts) i k h l) ∙ *ℚ_zero _))
 
+  -- the sum over rows r of g r times the sign of row i where r is i, else 0, is the sign times g i
   diagonal : (i : ℕ) → i < f.rows → (g : ℕ → ℚ) →
       sum_below f.rows (λ r. (delta i r *ℚ sign_at i) *ℚ g r) ≡ sign_at i *ℚ g i
   diagonal i h g =
       sum_below_same f.rows _ (λ r. delta i r *ℚ (sign_at i *ℚ g r)) (λ r _. *ℚ_assoc (delta i r) (sign_at i) (g r))
       ∙ sum_below-delta f.rows i (λ r. sign_at i *ℚ g r) h
 
+  -- the rows of the first tableau are combinations of the equations
   forth : Spans f.rows (entry_at t) F
   forth = (λ i r. delta i r *ℚ sign_at i, λ i k h. entry_sign i k h ∙ sym (diagonal i h (λ r. F r k)))
 
+  -- the equations are combinations of the rows of the first tableau
   back : Spans f.rows F (entry_at t)
   back = (
     λ i r. delta i r *ℚ sign_at i,
@@ -267,13 +291,16 @@ module _ (f : Form) (proper : IsProper f) (starts : List (RowStart ℚ)) (all : 
   )
 
   -- ---- the basic columns
+  -- row i's logical column is a column of the first tableau
   logical_in : (i : ℕ) → i < f.rows → f.cols + i < n
   logical_in i h = omega (arith, h)
 
+  -- row i's artificial column is a column of the first tableau
   artificial_in : (i : ℕ) → i < f.rows → f.cols + f.rows + i < n
   artificial_in i h = omega (arith, h)
 
-  -- by whether the row needs its artificial
+  -- what holds of row i's artificial column if the row needs it, and of its logical column if not, holds of the first
+  -- basic column of position i
   by_wanting : (P : ℕ → Type 0) (i : ℕ) → i < f.rows → (is_wanting (s i) ≡ true → P (f.cols + f.rows + i)) →
       (is_wanting (s i) ≡ false → P (f.cols + i)) → P (basic_at t i)
   by_wanting P i h first second = subst P (sym (basic_is i h)) (go (is_wanting (s i)) first second)
@@ -283,14 +310,17 @@ module _ (f : Form) (proper : IsProper f) (starts : List (RowStart ℚ)) (all : 
       go true first second = first refl
       go false first second = second refl
 
+  -- the basic column of each position of the first tableau is a column of it
   in_range : (i : ℕ) → i < f.rows → basic_at t i < n
   in_range i h = by_wanting (λ k. k < n) i h (λ _. artificial_in i h) (λ _. logical_in i h)
 
+  -- a row that begins within its limits has a logical column of the sign 1
   wanting_sign : (r : RowStart ℚ) → is_wanting r ≡ false → logical_sign r ≡ 1ℚ
   wanting_sign (Within v) e = refl
   wanting_sign (Below g) e = let z : true ≡ false = e in cc
   wanting_sign (Above g) e = let z : true ≡ false = e in cc
 
+  -- the basic columns of the first tableau are those of the unit matrix
   units : IsUnit f.rows (entry_at t) (basic_at t)
   units i r h l =
       by_wanting (λ k. entry_at t r k ≡ delta i r) i h
@@ -302,30 +332,35 @@ module _ (f : Form) (proper : IsProper f) (starts : List (RowStart ℚ)) (all : 
       (λ z. ap (λ a. sign_at r *ℚ a) (delta_other r i z) ∙ *ℚ_zero _ ∙ sym (delta_other i r (λ y. z (sym y)))))
 
   -- ---- statuses
+  -- a structural column of the first tableau has its first status
   status_structural : (k : ℕ) → k < f.cols → status_at t k ≡ first_status (form_lower f k) (form_upper f k)
   status_structural k h =
       status_is k (omega (arith, h))
       ∙ structural_at f (first_status (form_lower f k) (form_upper f k))
       (λ r. logical_status (s r)) (λ r. artificial_status (s r)) k h
 
+  -- row r's logical column of the first tableau has the status by how the row begins
   status_logical : (r : ℕ) → r < f.rows → status_at t (f.cols + r) ≡ logical_status (s r)
   status_logical r h =
       status_is (f.cols + r) (logical_in r h)
       ∙ logical_at f (first_status (form_lower f (f.cols + r)) (form_upper f (f.cols + r)))
       (λ r. logical_status (s r)) (λ r. artificial_status (s r)) r h
 
+  -- row r's artificial column of the first tableau has the status by how the row begins
   status_artificial : (r : ℕ) → r < f.rows → status_at t (f.cols + f.rows + r) ≡ artificial_status (s r)
   status_artificial r h =
       status_is (f.cols + f.rows + r) (artificial_in r h)
       ∙ artificial_at f (first_status (form_lower f (f.cols + f.rows + r)) (form_upper f (f.cols + f.rows + r)))
       (λ r. logical_status (s r)) (λ r. artificial_status (s r)) r
 
+  -- a structural column of the first tableau has its first value
   value_structural : (k : ℕ) → k < f.cols → value_at t k ≡ first_value f k
   value_structural k h =
       value_is k (omega (arith, h))
       ∙ structural_at f (first_value f k)
       (λ r. logical_value (s r) (form_lower f k) (form_upper f k)) (λ r. artificial_value (s r)) k h
 
+  -- row r's logical column of the first tableau has the value by how the row begins
   value_logical : (r : ℕ) → r < f.rows →
       value_at t (f.cols + r) ≡ logical_value (s r) (form_lower f (f.cols + r)) (form_upper f (f.cols + r))
   value_logical r h =
@@ -333,44 +368,51 @@ module _ (f : Form) (proper : IsProper f) (starts : List (RowStart ℚ)) (all : 
       ∙ logical_at f (first_value f (f.cols + r)) (λ i. logical_value (s i)
       (form_lower f (f.cols + r)) (form_upper f (f.cols + r))) (λ r. artificial_value (s r)) r h
 
+  -- row r's artificial column of the first tableau has the value by how the row begins
   value_artificial : (r : ℕ) → r < f.rows → value_at t (f.cols + f.rows + r) ≡ artificial_value (s r)
   value_artificial r h =
       value_is (f.cols + f.rows + r) (artificial_in r h)
       ∙ artificial_at f (first_value f (f.cols + f.rows + r)) (λ i. logical_value (s i)
       (form_lower f (f.cols + f.rows + r)) (form_upper f (f.cols + f.rows + r))) (λ r. artificial_value (s r)) r
 
+  -- the artificial column of a row that misses a limit begins as basic
   wanting_basic : (r : RowStart ℚ) → is_wanting r ≡ true → artificial_status r ≡ Basic
   wanting_basic (Within v) e = let z : false ≡ true = e in cc
   wanting_basic (Below g) e = refl
   wanting_basic (Above g) e = refl
 
+  -- the logical column of a row within its limits begins as basic
   not_wanting_basic : (r : RowStart ℚ) → is_wanting r ≡ false → logical_status r ≡ Basic
   not_wanting_basic (Within v) e = refl
   not_wanting_basic (Below g) e = let z : true ≡ false = e in cc
   not_wanting_basic (Above g) e = let z : true ≡ false = e in cc
 
+  -- a row whose logical column begins as basic is within its limits
   basic_not_wanting : (r : RowStart ℚ) → logical_status r ≡ Basic → is_wanting r ≡ false
   basic_not_wanting (Within v) e = refl
   basic_not_wanting (Below g) e = let z : AtLower ≡ Basic = e in cc
   basic_not_wanting (Above g) e = let z : AtUpper ≡ Basic = e in cc
 
+  -- a row whose artificial column begins as basic misses a limit
   basic_wanting : (r : RowStart ℚ) → artificial_status r ≡ Basic → is_wanting r ≡ true
   basic_wanting (Within v) e = let z : AtLower ≡ Basic = e in cc
   basic_wanting (Below g) e = refl
   basic_wanting (Above g) e = refl
 
+  -- the basic column of each position has the status `Basic` in the first tableau
   marked : (i : ℕ) → i < f.rows → status_at t (basic_at t i) ≡ Basic
   marked i h =
       by_wanting (λ k. status_at t k ≡ Basic) i h
       (λ e. status_artificial i h ∙ wanting_basic (s i) e)
       (λ e. status_logical i h ∙ not_wanting_basic (s i) e)
 
-  -- an index below all columns, by its kind
+  -- what holds of each structural, each logical and each artificial column holds of each column k
   by_column_kind : (P : ℕ → Type 0) (k : ℕ) → k < n → (k < f.cols → P k) → ((r : ℕ) → r < f.rows → P (f.cols + r)) →
       ((r : ℕ) → r < f.rows → P (f.cols + f.rows + r)) → P k
   by_column_kind P k h a c d =
       by_kind f.cols f.rows k a (λ r l e. subst P (sym e) (c r l)) (λ r e. subst P (sym e) (d r (omega (arith, h, e))))
 
+  -- each column with the status `Basic` in the first tableau is basic at some position
   placed : (k : ℕ) → k < n → status_at t k ≡ Basic → (i : ℕ) × (i < f.rows) × (basic_at t i ≡ k)
   placed k h =
       by_column_kind (λ k. status_at t k ≡ Basic → (i : ℕ) × (i < f.rows) × (basic_at t i ≡ k)) k h
@@ -389,9 +431,12 @@ module _ (f : Form) (proper : IsProper f) (starts : List (RowStart ℚ)) (all : 
       ))
 
   -- ---- bounds and values
+  -- column k of the first tableau stands where its status says
   abbrev StandsAt : ℕ → Type 0
   StandsAt k = Stands (status_at t k) (lower_at t k) (upper_at t k) (value_at t k)
 
+  -- column k of the first tableau stands where its status says if its status, bounds and value are equal to ones of
+  -- which that is true
   stands_by : (k : ℕ) (x : Status) (l u : Option ℚ) (v : ℚ) → status_at t k ≡ x → lower_at t k ≡ l → upper_at t k ≡ u →
       value_at t k ≡ v → Stands x l u v → StandsAt k
   stands_by k x l u v a c d e h =
@@ -399,6 +444,7 @@ module _ (f : Form) (proper : IsProper f) (starts : List (RowStart ℚ)) (all : 
       (subst (λ l. Stands x l (upper_at t k) (value_at t k)) (sym c)
       (subst (λ u. Stands x l u (value_at t k)) (sym d) (subst (Stands x l u) (sym e) h)))
 
+  -- each column of the first tableau stands where its status says
   stands : (k : ℕ) → k < n → StandsAt k
   stands k h =
       by_column_kind StandsAt k h
@@ -414,15 +460,18 @@ module _ (f : Form) (proper : IsProper f) (starts : List (RowStart ℚ)) (all : 
       (artificial_value (s r)) (status_artificial r l) (lower_after r l) (upper_after r l) (value_artificial r l)
       (artificial_stands (s r)))
 
+  -- the value of column k of the first tableau is within its bounds
   abbrev InsideAt : ℕ → Type 0
   InsideAt k = IsInside (lower_at t k) (upper_at t k) (value_at t k)
 
+  -- the value of column k of the first tableau is within its bounds if these are equal to ones of which that is true
   inside_by : (k : ℕ) (l u : Option ℚ) (v : ℚ) → lower_at t k ≡ l → upper_at t k ≡ u → value_at t k ≡ v →
       IsInside l u v → InsideAt k
   inside_by k l u v c d e h =
       subst (λ l. IsInside l (upper_at t k) (value_at t k)) (sym c)
       (subst (λ u. IsInside l u (value_at t k)) (sym d) (subst (IsInside l u) (sym e) h))
 
+  -- each value of the first tableau is within the bounds of its column
   pub begun_within : IsWithinBounds f.rows f.cols (bounds_of t) t
   begun_within k h =
       by_column_kind InsideAt k h
@@ -439,6 +488,7 @@ module _ (f : Form) (proper : IsProper f) (starts : List (RowStart ℚ)) (all : 
       (artificial_inside (form_lower f (f.cols + r)) (form_upper f (f.cols + r)) (first_sum f r) (s r) (begins r l)))
 
   -- ---- the equations are solved
+  -- the values of the first tableau solve each equation of the form
   solves : (i : ℕ) → i < f.rows → sum_below n (λ k. F i k *ℚ value_at t k) ≡ 0ℚ
   solves i h =
       sum_by_kind f.cols f.rows (λ k. F i k *ℚ value_at t k)
@@ -478,6 +528,7 @@ module _ (f : Form) (proper : IsProper f) (starts : List (RowStart ℚ)) (all : 
           ∙ ap (λ a. sign_at i *ℚ a) (value_artificial i h)
 
   -- ---- the whole
+  -- with as many reduced costs as columns, the first tableau has lists of the right lengths
   whole : length reduced ≡ n → IsWhole t
   whole reduced_length = record {
     all_rows = length-made f.rows (start_row f starts);
@@ -494,16 +545,19 @@ module _ (f : Form) (proper : IsProper f) (starts : List (RowStart ℚ)) (all : 
         ∙ ap₂ ◌+◌ proper.all_upper (length-map starts artificial_upper ∙ all);
   }
 
+  -- an artificial column that does not begin as basic has the upper bound 0
   fixed_upper : (r : RowStart ℚ) → ¬ (artificial_status r ≡ Basic) → artificial_upper r ≡ Some 0ℚ
   fixed_upper (Within v) h = refl
   fixed_upper (Below g) h = absurd (h refl)
   fixed_upper (Above g) h = absurd (h refl)
 
+  -- the upper bound of an artificial column at the start is 0 or none
   top_of : (r : RowStart ℚ) → (artificial_upper r ≡ None) ⊎ (artificial_upper r ≡ Some 0ℚ)
   top_of (Within v) = inr refl
   top_of (Below g) = inl refl
   top_of (Above g) = inl refl
 
+  -- the first tableau keeps its own bounds
   keeps : KeepsBounds (bounds_of t) t
   keeps = record {
     lower = λ k l. refl;
@@ -528,6 +582,7 @@ module _ (f : Form) (proper : IsProper f) (starts : List (RowStart ℚ)) (all : 
         (upper_after r r_in ∙ fixed_upper (s r) (λ z. b (ap (status_at t) e ∙ status_artificial r r_in ∙ z)));
   }
 
+  -- with reduced costs that agree with costs, the first tableau is one of the form's equations and these costs
   tableau_of : (cost : ℕ → ℚ) → length reduced ≡ n → AgreesWith f.rows F (basic_at t) cost (reduced_at t) →
       IsTableauOf f.rows f.cols F cost (bounds_of t) t
   tableau_of cost reduced_length costs = record {
@@ -549,6 +604,7 @@ module _ (f : Form) (proper : IsProper f) (starts : List (RowStart ℚ)) (all : 
     bounds = keeps;
   }
 
+  -- the tableau with the rows' starts and the reduced costs of phase one is one of the form's equations
   pub begun_is : (limit : Option ℕ) → priced_run limit (begun f starts) (first_costs f starts) ≡ Ok reduced →
       IsTableauOf f.rows f.cols F (cost_at (first_costs f starts)) (bounds_of t) t
   begun_is limit h =
@@ -557,7 +613,9 @@ module _ (f : Form) (proper : IsProper f) (starts : List (RowStart ℚ)) (all : 
       (priced_agrees limit (begun f starts) (first_costs f starts) reduced h
       (first_few f starts all) entry_past F forth units in_range)
 
--- what is known of the start
+-- t is a start of the form f: a tableau of f's equations and of the costs of phase one, by how the rows begin, with
+-- values within its bounds. It has f's bounds for structural and logical columns, and for artificials the bounds that
+-- the rows' beginnings give.
 pub record Started (f : Form) (t : Tableau) : Type 0 where
   pub starts : List (RowStart ℚ)
   pub tableau : IsTableauOf f.rows f.cols (form_rows f (signs_of starts)) (cost_at (first_costs f starts))

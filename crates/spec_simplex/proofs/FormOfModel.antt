@@ -29,39 +29,47 @@ use Rattle.spec_simplex.proofs.RunParts.{then_ok, refused_ok, order_ok, steps_ok
 use Rattle.spec_simplex.proofs.ListIndices.{by_lt}
 use Rattle.spec_simplex.proofs.FormRowLimits.{AreLimits, limits_ok, limits_ordered}
 
+-- the lower and the upper limit of a row, each of which may be absent
 abbrev Pair : Type 0
 Pair = Option ℚ × Option ℚ
 
+-- the limits of a row that has none
 abbrev no_limits : Pair
 no_limits = (None, None)
 
--- the limits of all rows, and columns whose bounds do not clash
+-- ls are the lower and upper limits of all rows of the model m, in order, and no lower bound of a column of m is above
+-- its upper one
 pub record Limited (m : Model) (ls : List (Option ℚ × Option ℚ)) : Type 0 where
   pub all : length ls ≡ height m
   pub each : (i : ℕ) → i < height m → AreLimits (limits m i) (get_or ls i no_limits)
   pub ordered : (j : ℕ) (l u : ℚ) → j < width m → (bounds m j).lower ≡ Some l → (bounds m j).upper ≡ Some u → l ≤ℚ u
 
 module _ (m : Model) (ls : List (Option ℚ × Option ℚ)) (h : Limited m ls) where
+  -- the form of the model m by the limits of its rows
   abbrev f : Form
   f = formed m ls
 
+  -- the coefficient of structural column j in row i of the form is that of the model
   pub entry_is : (i j : ℕ) → form_entry f i j ≡ coefficient m i j
   entry_is i j =
       ap (λ es. Rattle.spec_model.specs.Model.entry_of es i)
       (get_or-map (λ (c : ExactColumn). c.entries) m.columns j no_column)
 
+  -- the lower bound of structural column j of the form is that of the model
   pub lower_structural : (j : ℕ) → j < width m → form_lower f j ≡ (bounds m j).lower
   lower_structural j l =
       get_or_append_left (map (λ (c : ExactColumn). c.lower) m.columns) (map (λ (p : Pair). p.0) ls) None j
       (omega (arith, l, length-map m.columns (λ (c : ExactColumn). c.lower)))
       ∙ get_or-map (λ (c : ExactColumn). c.lower) m.columns j no_column
 
+  -- the upper bound of structural column j of the form is that of the model
   pub upper_structural : (j : ℕ) → j < width m → form_upper f j ≡ (bounds m j).upper
   upper_structural j l =
       get_or_append_left (map (λ (c : ExactColumn). c.upper) m.columns) (map (λ (p : Pair). p.1) ls) None j
       (omega (arith, l, length-map m.columns (λ (c : ExactColumn). c.upper)))
       ∙ get_or-map (λ (c : ExactColumn). c.upper) m.columns j no_column
 
+  -- the lower bound of the logical column of row i is the row's lower limit
   pub lower_logical : (i : ℕ) → i < height m → form_lower f (width m + i) ≡ (limits m i).lower
   lower_logical i l =
       ap (λ k. get_or (map (λ (c : ExactColumn). c.lower) m.columns ++ map (λ (p : Pair). p.0) ls) (k + i) None)
@@ -69,6 +77,7 @@ module _ (m : Model) (ls : List (Option ℚ × Option ℚ)) (h : Limited m ls) w
       ∙ get_or-append-add (map (λ (c : ExactColumn). c.lower) m.columns) (map (λ (p : Pair). p.0) ls) i None
       ∙ get_or-map (λ (p : Pair). p.0) ls i no_limits ∙ (h.each i l).lower
 
+  -- the upper bound of the logical column of row i is the row's upper limit
   pub upper_logical : (i : ℕ) → i < height m → form_upper f (width m + i) ≡ (limits m i).upper
   upper_logical i l =
       ap (λ k. get_or (map (λ (c : ExactColumn). c.upper) m.columns ++ map (λ (p : Pair). p.1) ls) (k + i) None)
@@ -76,10 +85,12 @@ module _ (m : Model) (ls : List (Option ℚ × Option ℚ)) (h : Limited m ls) w
       ∙ get_or-append-add (map (λ (c : ExactColumn). c.upper) m.columns) (map (λ (p : Pair). p.1) ls) i None
       ∙ get_or-map (λ (p : Pair). p.1) ls i no_limits ∙ (h.each i l).upper
 
+  -- `least_cost` of the cost 0 is 0
   least_zero : (s : Sense) → least_cost s 0ℚ ≡ 0ℚ
   least_zero Min = refl
   least_zero Max = Rattle.spec_exact.proofs.Ruleset.neg-zero
 
+  -- the cost of structural column j is `least_cost` of the model's cost
   pub least_structural : (j : ℕ) → j < width m → form_cost f j ≡ least_cost m.sense (cost m j)
   least_structural j l =
       get_or_append_left (map (λ (c : ExactColumn). least_cost m.sense c.cost) m.columns) (replicate (height m) 0ℚ) 0ℚ j
@@ -87,11 +98,13 @@ module _ (m : Model) (ls : List (Option ℚ × Option ℚ)) (h : Limited m ls) w
       ∙ ap (get_or (map (λ (c : ExactColumn). least_cost m.sense c.cost) m.columns) j) (sym (least_zero m.sense))
       ∙ get_or-map (λ (c : ExactColumn). least_cost m.sense c.cost) m.columns j no_column
 
+  -- the form has a cost for each structural and each logical column
   pub cost_length : length f.cost ≡ width m + height m
   cost_length =
       length-append (map (λ (c : ExactColumn). least_cost m.sense c.cost) m.columns) (replicate (height m) 0ℚ)
       ∙ ap₂ ◌+◌ (length-map m.columns (λ (c : ExactColumn). least_cost m.sense c.cost)) (length-replicate (height m) 0ℚ)
 
+  -- each logical column of the form has the cost 0, as has each column past these
   pub cost_other : (i : ℕ) → form_cost f (width m + i) ≡ 0ℚ
   cost_other i =
       by_lt i (height m)
@@ -102,6 +115,7 @@ module _ (m : Model) (ls : List (Option ℚ × Option ℚ)) (h : Limited m ls) w
       ∙ get_or-replicate (height m) i 0ℚ 0ℚ l)
       (λ l. get_or_past f.cost (width m + i) 0ℚ (omega (arith, l, cost_length)))
 
+  -- the form of the model is proper: it has a bound or none for each column, and none clash
   pub formed_proper : IsProper f
   formed_proper = record {
     all_lower =
@@ -120,7 +134,8 @@ module _ (m : Model) (ls : List (Option ℚ × Option ℚ)) (h : Limited m ls) w
         (sym (upper_logical (k - width m) i_in) ∙ ap (form_upper f) (sym e) ∙ q));
   }
 
--- the bounds of a form, but for those of the artificial columns
+-- b has the bounds of the form f for structural and logical columns, and bars none of them from entering; of artificial
+-- ones nothing is said
 pub record HasBounds (f : Form) (b : Bounds) : Type 0 where
   pub lower : (k : ℕ) → k < f.cols + f.rows → b.lower k ≡ form_lower f k
   pub upper : (k : ℕ) → k < f.cols + f.rows → b.upper k ≡ form_upper f k

@@ -18,7 +18,7 @@ use Rattle.spec_exact.proofs.Magnitudes.{abs_least}
 use Rattle.spec_simplex.specs.Form.{limits_run}
 use Rattle.spec_simplex.proofs.RunParts.{then_ok}
 
--- a pair that has these limits
+-- the pair p has the lower limit of l first and the upper limit of l second
 pub record AreLimits (l : Limits) (p : Option ℚ × Option ℚ) : Type 0 where
   pub lower : p.0 ≡ l.lower
   pub upper : p.1 ≡ l.upper
@@ -32,9 +32,11 @@ limits_ok limit r p h =
     (record { lower = limit_ok limit (lower_of r) l.0 l.1; upper = limit_ok limit (upper_of r) u.0 u.1 })
 
 -- ---- a lower limit is not above the upper one
+-- where both limits of l are there, the lower one is at most the upper one
 abbrev Ordered : Limits → Type 0
 Ordered l = (a c : ℚ) → l.lower ≡ Some a → l.upper ≡ Some c → a ≤ℚ c
 
+-- the limits of which the lower one is a and the upper one c
 abbrev from_to : ℚ → ℚ → Limits
 from_to a c = record { lower = Some a; upper = Some c }
 

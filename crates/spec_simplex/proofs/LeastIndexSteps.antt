@@ -1,7 +1,7 @@
 -- A step of the run is a step by Bland's rule.
 --
 -- `ahead_is`: the bound towards which a column moves is the one that the run takes as its other bound.
--- `way_is`: a column with a lower bound flips the way in which it may enter.
+-- `way_is`: a column with a lower bound flips the way in which it can move.
 -- `choice_is_meant`: what the run chooses in a tableau within its bounds is an end, a flip or a pivot by the rule.
 use Rattle.std.proofs.Common.{◌≡◌, ℕ, ◌+◌, Option, Some, None, Ok, refl, sym, ◌∙◌, subst, subst₂}
 use Rattle.spec_exact.specs.Fraction.{ℚ}
@@ -52,7 +52,8 @@ way_is AtZero way l u v low e c s = let z : None ≡ Some low = sym s.0 ∙ e in
 module _ (limit : Option ℕ) (t : Tableau) (w : IsWhole t) (f : Matrix) (cost : ℕ → ℚ)
     (b : Bounds) (g : IsTableau t.rows (all_columns t) f cost b (table_of t))
     (within : IsWithin (all_columns t) b (table_of t)) (keeps : KeepsBounds b t) where
-  -- what a step by the rule leaves
+  -- where the run leaves the table v, and v is a step by Bland's rule with values within the bounds, the run steps to u
+  -- so
   steps_to : (u : Tableau) (v : Table) (l : Label) → Leaves b t u v → IsStep t.rows (all_columns t) b l (table_of t) v →
       IsWithin (all_columns t) b v → StepsTo t.rows t.cols f cost b t u
   steps_to u v l left step inside = record {
@@ -71,6 +72,7 @@ module _ (limit : Option ℕ) (t : Tableau) (w : IsWhole t) (f : Matrix) (cost :
   }
 
   module _ (e : Entering) (enters : Enters (all_columns t) b (table_of t) e.direction e.col) where
+    -- a pivot by the best ratio at a position is a step by Bland's rule
     pivots_to : (x : Best ℚ) → best_run limit t e ≡ Ok (Some x) → (p : ℕ) → x.place ≡ Some p → (u : Tableau) →
         pivot_run limit t p e.col (directed e.direction x.ratio) x.to ≡ Ok u → StepsTo t.rows t.cols f cost b t u
     pivots_to x found p at u h =
@@ -91,6 +93,7 @@ module _ (limit : Option ℕ) (t : Tableau) (w : IsWhole t) (f : Matrix) (cost :
         (stays_within t.rows (all_columns t) f cost b (table_of t) e.direction e.col x.ratio g within enters
         (best_has_room t.rows (all_columns t) f cost b (table_of t) e.direction e.col g within enters (plain x) best))
 
+    -- a flip by a best ratio at no position is a step by Bland's rule
     flips_to : (x : Best ℚ) → best_run limit t e ≡ Ok (Some x) → x.place ≡ None → (u : Tableau) →
         flip_run limit t e.col ≡ Ok u → StepsTo t.rows t.cols f cost b t u
     flips_to x found at u h =
@@ -120,6 +123,7 @@ module _ (limit : Option ℕ) (t : Tableau) (w : IsWhole t) (f : Matrix) (cost :
         (stays_within t.rows (all_columns t) f cost b (table_of t) e.direction e.col x.ratio g within enters
         (best_has_room t.rows (all_columns t) f cost b (table_of t) e.direction e.col g within enters (plain x) best))
 
+    -- the choice that the run makes by the best of the ratio test is an end, a flip or a pivot by the rule
     with_best : (best : Option (Best ℚ)) → best_run limit t e ≡ Ok best →
         IsMeant t.rows t.cols f cost b limit t (choice_by e best)
     with_best None h =
@@ -131,6 +135,7 @@ module _ (limit : Option ℕ) (t : Tableau) (w : IsWhole t) (f : Matrix) (cost :
         by None p = flips_to x h p
         by (Some i) p = pivots_to x h i p
 
+  -- what the run chooses is an end, a flip or a pivot by Bland's rule
   chosen : (choice : Choice ℚ) → choice_run limit t ≡ Ok choice → IsMeant t.rows t.cols f cost b limit t choice
   unfolding choice_run
   chosen choice h = by (entering t) refl h

@@ -1,8 +1,8 @@
 -- The form, the start and the steps at a limit agree with those without one, or an operation is refused.
 --
--- `ok`: a run that gives a result agrees with one that gives the same result.
--- `also`: runs that agree, and go on with runs that agree, agree together.
--- `form_without`: the form of a model at a limit is its form without one.
+-- `ok`: a run that gives a agrees with itself: at a limit and without one it is the same result.
+-- `also`: where two runs agree, and so do what goes on from each result of theirs, the two go on in agreement.
+-- `form_without`: the form of a model at a limit, where it has one, is its form without a limit.
 use Rattle.std.proofs.Common.{◌≡◌, ℕ, ◌+◌, List, Option, Some, None, Ok, nat_eq, ⊎_elim, Result, Err, sym, ◌∙◌}
 use Rattle.std.specs.declared.cmp.Ordering.{Ordering}
 use Rattle.std.specs.declared.cmp.Ordering.TheVariants.{Less, Equal, Greater}
@@ -38,16 +38,19 @@ also o u f g = agrees_then as_it_is o u f g
 
 module _ (limit : Option ℕ) where
   -- ---- the form
+  -- without a limit of numbers a row's limit is never refused; at one it is the same, or it is refused
   limit_agrees : (o : RowLimit ℚ) → Agrees as_it_is (limit_run limit o) (limit_run None o)
   limit_agrees Absent = ok _
   limit_agrees (Given v) = ok _
   limit_agrees (Sum v w) = also _ _ _ _ (agrees_sum limit v w) (λ s. ok _)
   limit_agrees (Difference v w) = also _ _ _ _ (agrees_difference limit v w) (λ d. ok _)
 
+  -- without a limit the limits of a row are never refused; at a limit they are the same, or they are refused
   limits_agrees : (r : ExactRow) → Agrees as_it_is (limits_run limit r) (limits_run None r)
   limits_agrees r =
       also _ _ _ _ (limit_agrees (lower_of r)) (λ l. also _ _ _ _ (limit_agrees (upper_of r)) (λ u. ok (l, u)))
 
+  -- the fault of two bounds by how they compare is never a refusal of an operation
   clash_agrees : (j : ℕ) (o : Ordering) → Agrees fault.Past (clash_by j o) (clash_by j o)
   clash_agrees j Less = agrees_ok fault.Past tt
   clash_agrees j Equal = agrees_ok fault.Past tt
@@ -55,12 +58,14 @@ module _ (limit : Option ℕ) where
       agrees_err fault.Past (fault.Clash j)
       (λ p e. let z : ◌≡◌ {A = FormFault ℚ} (fault.Clash j) (fault.Past p) = e in cc)
 
+  -- without a limit the test for a clash of two bounds is never refused; at a limit it is the same, or it is refused
   bounds_agrees : (j : ℕ) (l u : Option ℚ) → Agrees fault.Past (bounds_clash limit j l u) (bounds_clash None j l u)
   bounds_agrees j None u = agrees_ok fault.Past tt
   bounds_agrees j (Some l) None = agrees_ok fault.Past tt
   bounds_agrees j (Some l) (Some u) =
       agrees_then fault.Past _ _ _ _ (agrees_as fault.Past _ _ (agrees_order limit l u)) (λ o. clash_agrees j o)
 
+  -- without a limit the form of a model is never refused; at a limit it is the same, or it is refused
   pub form_agrees : (m : Model) → Agrees fault.Past (form_of limit m) (form_of None m)
   unfolding form_of
   form_agrees m =
@@ -71,29 +76,37 @@ module _ (limit : Option ℕ) where
       agrees_ok fault.Past (formed m ls)))
 
   -- ---- the start
+  -- without a limit the gap below a lower limit, by how it compares, is never refused; at a limit it is the same, or it
+  -- is refused
   below_by_agrees : (l v : ℚ) (o : Ordering) → Agrees as_it_is (below_by limit l v o) (below_by None l v o)
   below_by_agrees l v Less = also _ _ _ _ (agrees_difference limit l v) (λ gap. ok _)
   below_by_agrees l v Equal = ok _
   below_by_agrees l v Greater = ok _
 
+  -- without a limit the gap below a lower limit is never refused; at a limit it is the same, or it is refused
   below_agrees : (l : Option ℚ) (v : ℚ) → Agrees as_it_is (below_run limit l v) (below_run None l v)
   below_agrees None v = ok _
   below_agrees (Some l) v = also _ _ _ _ (agrees_order limit v l) (below_by_agrees l v)
 
+  -- without a limit the gap above an upper limit, by how it compares, is never refused; at a limit it is the same, or
+  -- it is refused
   above_by_agrees : (u v : ℚ) (o : Ordering) → Agrees as_it_is (above_by limit u v o) (above_by None u v o)
   above_by_agrees u v Less = ok _
   above_by_agrees u v Equal = ok _
   above_by_agrees u v Greater = also _ _ _ _ (agrees_difference limit v u) (λ gap. ok _)
 
+  -- without a limit the gap above an upper limit is never refused; at a limit it is the same, or it is refused
   above_agrees : (u : Option ℚ) (v : ℚ) → Agrees as_it_is (above_run limit u v) (above_run None u v)
   above_agrees None v = ok _
   above_agrees (Some u) v = also _ _ _ _ (agrees_order limit v u) (above_by_agrees u v)
 
+  -- without a limit the start of a row, by its gap below, is never refused; at a limit it is the same, or it is refused
   start_by_agrees : (u : Option ℚ) (v : ℚ) (gap : Option ℚ) →
       Agrees as_it_is (row_start_by limit u v gap) (row_start_by None u v gap)
   start_by_agrees u v None = also _ _ _ _ (above_agrees u v) (λ gap. ok _)
   start_by_agrees u v (Some gap) = ok _
 
+  -- without a limit the start of a row is never refused; at a limit it is the same, or it is refused
   pub row_start_agrees : (f : Form) (i : ℕ) → Agrees as_it_is (row_start limit f i) (row_start None f i)
   row_start_agrees f i =
       also _ _ _ _
@@ -101,6 +114,7 @@ module _ (limit : Option ℕ) where
       also _ _ _ _ (below_agrees (form_lower f (f.cols + i)) v)
       (λ gap. start_by_agrees (form_upper f (f.cols + i)) v gap))
 
+  -- without a limit the reduced costs are never refused; at a limit they are the same, or they are refused
   pub priced_agrees : (t : Tableau) (costs : List ℚ) →
       Agrees as_it_is (priced_run limit t costs) (priced_run None t costs)
   unfolding priced_run
@@ -109,6 +123,7 @@ module _ (limit : Option ℕ) where
       (λ k. agrees_steps as_it_is t.rows _ _ (cost_at costs k)
       (λ i d. agrees_less limit (cost_at costs (basic_at t i)) (entry_at t i k) d))
 
+  -- without a limit the start of a form is never refused; at a limit it is the same, or it is refused
   pub start_agrees : (f : Form) → Agrees as_it_is (start_of limit f) (start_of None f)
   unfolding start_of
   start_agrees f =
@@ -116,59 +131,73 @@ module _ (limit : Option ℕ) where
       also _ _ _ _ (priced_agrees _ _) (λ reduced. ok _))
 
   -- ---- one step
+  -- without a limit the distance of the entering column's bounds is never refused; at a limit it is the same, or it is
+  -- refused
   range_agrees : (e : Entering) (l u : Option ℚ) → Agrees as_it_is (range_run limit e l u) (range_run None e l u)
   range_agrees e None u = ok _
   range_agrees e (Some l) None = ok _
   range_agrees e (Some l) (Some u) = also _ _ _ _ (agrees_difference limit u l) (λ range. ok _)
 
+  -- without a limit the gap of a value that rises is never refused; at a limit it is the same, or it is refused
   rise_agrees : (u : Option ℚ) (v : ℚ) → Agrees as_it_is (rise_run limit u v) (rise_run None u v)
   rise_agrees None v = ok _
   rise_agrees (Some u) v = also _ _ _ _ (agrees_difference limit u v) (λ gap. ok _)
 
+  -- without a limit the gap of a value that falls is never refused; at a limit it is the same, or it is refused
   fall_agrees : (l : Option ℚ) (v : ℚ) → Agrees as_it_is (fall_run limit l v) (fall_run None l v)
   fall_agrees None v = ok _
   fall_agrees (Some l) v = also _ _ _ _ (agrees_difference limit v l) (λ gap. ok _)
 
+  -- without a limit the gap of a position is never refused; at a limit it is the same, or it is refused
   gap_agrees : (way : Way) (a : ℚ) (l u : Option ℚ) (v : ℚ) →
       Agrees as_it_is (gap_run limit way a l u v) (gap_run None way a l u v)
   gap_agrees way a l u v =
       agrees_if as_it_is (lt_ℚ (directed way a) 0ℚ) _ _ _ _ (rise_agrees u v)
       (agrees_if as_it_is (lt_ℚ 0ℚ (directed way a)) _ _ _ _ (fall_agrees l v) (ok _))
 
+  -- without a limit the better of two ratios is never refused; at a limit it is the same, or it is refused
   better_agrees : (new : Best ℚ) (best : Option (Best ℚ)) →
       Agrees as_it_is (better_run limit new best) (better_run None new best)
   better_agrees new None = ok _
   better_agrees new (Some best) = also _ _ _ _ (agrees_order limit new.ratio best.ratio) (λ o. ok _)
 
+  -- without a limit the best ratio with a gap more is never refused; at a limit it is the same, or it is refused
   with_gap_agrees : (i k : ℕ) (a : ℚ) (best : Option (Best ℚ)) (gap : Option (ℚ × Status)) →
       Agrees as_it_is (with_gap limit i k a best gap) (with_gap None i k a best gap)
   with_gap_agrees i k a best None = ok _
   with_gap_agrees i k a best (Some (gap, to)) =
       also _ _ _ _ (agrees_quotient limit gap (abs_ℚ a)) (λ ratio. better_agrees _ best)
 
+  -- without a limit the best ratio with a position more is never refused; at a limit it is the same, or it is refused
   best_with_agrees : (t : Tableau) (e : Entering) (i : ℕ) (best : Option (Best ℚ)) →
       Agrees as_it_is (best_with limit t e i best) (best_with None t e i best)
   best_with_agrees t e i best =
       also _ _ _ _ (gap_agrees e.direction (entry_at t i e.col) (lower_at t (basic_at t i)) (upper_at t (basic_at t i))
       (value_at t (basic_at t i))) (λ gap. with_gap_agrees i (basic_at t i) (entry_at t i e.col) best gap)
 
+  -- without a limit the best ratio is never refused; at a limit it is the same, or it is refused
   pub best_agrees : (t : Tableau) (e : Entering) → Agrees as_it_is (best_run limit t e) (best_run None t e)
   best_agrees t e =
       also _ _ _ _ (range_agrees e _ _)
       (λ best. agrees_steps as_it_is t.rows (best_with limit t e) (best_with None t e) best (best_with_agrees t e))
 
+  -- without a limit the choice by the entering column is never refused; at a limit it is the same, or it is refused
   choice_of_agrees : (t : Tableau) (e : Option Entering) → Agrees as_it_is (choice_of limit t e) (choice_of None t e)
   choice_of_agrees t None = ok _
   choice_of_agrees t (Some e) = also _ _ _ _ (best_agrees t e) (λ best. ok _)
 
+  -- without a limit the choice of a step is never refused; at a limit it is the same, or it is refused
   pub choice_agrees : (t : Tableau) → Agrees as_it_is (choice_run limit t) (choice_run None t)
   unfolding choice_run
   choice_agrees t = choice_of_agrees t (entering t)
 
+  -- without a limit the values after the move of one position are never refused; at a limit they are the same, or they
+  -- are refused
   moved_at_agrees : (t : Tableau) (j : ℕ) (theta : ℚ) (i : ℕ) (values : List ℚ) →
       Agrees as_it_is (moved_at limit t j theta i values) (moved_at None t j theta i values)
   moved_at_agrees t j theta i values = also _ _ _ _ (agrees_less limit _ theta _) (λ v. ok _)
 
+  -- without a limit the values after a move are never refused; at a limit they are the same, or they are refused
   pub moved_agrees : (t : Tableau) (j : ℕ) (theta : ℚ) (but : Option ℕ) →
       Agrees as_it_is (moved_run limit t j theta but) (moved_run None t j theta but)
   unfolding moved_run
@@ -176,21 +205,25 @@ module _ (limit : Option ℕ) where
       agrees_steps as_it_is t.rows _ _ t.value
       (λ i values. agrees_if as_it_is (is_place but i) _ _ _ _ (ok values) (moved_at_agrees t j theta i values))
 
+  -- without a limit a flip is never refused; at a limit it is the same, or it is refused
   pub flip_agrees : (t : Tableau) (j : ℕ) → Agrees as_it_is (flip_run limit t j) (flip_run None t j)
   unfolding flip_run
   flip_agrees t j =
       also _ _ _ _ (agrees_difference limit _ _) (λ range. also _ _ _ _ (moved_agrees t j _ None) (λ values. ok _))
 
+  -- without a limit the pivot's scaled row is never refused; at a limit it is the same, or it is refused
   scaled_agrees : (n : ℕ) (rows : List (List ℚ)) (p j : ℕ) →
       Agrees as_it_is (scaled_run limit n rows p j) (scaled_run None n rows p j)
   unfolding scaled_run
   scaled_agrees n rows p j = also _ _ _ _ (agrees_list n _ _ (λ k. agrees_quotient limit _ _)) (λ row. ok _)
 
+  -- without a limit the clearing of a row is never refused; at a limit it is the same, or it is refused
   cleared_agrees : (n p j i : ℕ) (rows : List (List ℚ)) →
       Agrees as_it_is (cleared_run limit n p j i rows) (cleared_run None n p j i rows)
   unfolding cleared_run
   cleared_agrees n p j i rows = also _ _ _ _ (agrees_list n _ _ (λ k. agrees_less limit _ _ _)) (λ row. ok _)
 
+  -- without a limit the rows after a pivot are never refused; at a limit they are the same, or they are refused
   pub turned_agrees : (m n : ℕ) (rows : List (List ℚ)) (p j : ℕ) →
       Agrees as_it_is (turned_run limit m n rows p j) (turned_run None m n rows p j)
   unfolding turned_run
@@ -198,16 +231,20 @@ module _ (limit : Option ℕ) where
       also _ _ _ _ (scaled_agrees n rows p j) (λ scaled. agrees_steps as_it_is m _ _ scaled
       (λ i rows. agrees_if as_it_is (nat_eq i p) _ _ _ _ (ok rows) (cleared_agrees n p j i rows)))
 
+  -- without a limit the reduced costs after a pivot are never refused; at a limit they are the same, or they are
+  -- refused
   repriced_agrees : (n : ℕ) (reduced : List ℚ) (rows : List (List ℚ)) (p j : ℕ) →
       Agrees as_it_is (repriced_run limit n reduced rows p j) (repriced_run None n reduced rows p j)
   unfolding repriced_run
   repriced_agrees n reduced rows p j = agrees_list n _ _ (λ k. agrees_less limit _ _ _)
 
+  -- without a limit values of which one is shifted are never refused; at a limit they are the same, or they are refused
   pub shifted_agrees : (values : List ℚ) (j : ℕ) (theta : ℚ) →
       Agrees as_it_is (shifted_run limit values j theta) (shifted_run None values j theta)
   unfolding shifted_run
   shifted_agrees values j theta = also _ _ _ _ (agrees_sum limit _ theta) (λ v. ok _)
 
+  -- without a limit a pivot is never refused; at a limit it is the same, or it is refused
   pub pivot_agrees : (t : Tableau) (p j : ℕ) (theta : ℚ) (to : Status) →
       Agrees as_it_is (pivot_run limit t p j theta to) (pivot_run None t p j theta to)
   unfolding pivot_run

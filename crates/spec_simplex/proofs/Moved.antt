@@ -29,11 +29,13 @@ at_position m n f cost b t g k =
 
 module _ (limit : Option ℕ) (t : Tableau) (w : IsWhole t) (f : Matrix) (cost : ℕ → ℚ)
     (b : Bounds) (g : IsTableau t.rows (all_columns t) f cost b (table_of t)) where
+  -- no column is basic at two positions
   unique : (r s : ℕ) → r < t.rows → s < t.rows → basic_at t r ≡ basic_at t s → r ≡ s
   unique r s = apart t.rows (entry_at t) (basic_at t) g.units r s
 
   module _ (j : ℕ) (theta : ℚ) (but : Option ℕ) where
-    -- after the positions below i
+    -- the values after the move of the positions below i: their basic columns have lost their entry in column j times
+    -- theta, but for the position that is left out, and all other columns have their old values
     record Moved (i : ℕ) (values : List ℚ) : Type 0 where
       all : length values ≡ all_columns t
       placed : (r : ℕ) → r < i → r < t.rows → is_place but r ≡ false →
@@ -41,6 +43,8 @@ module _ (limit : Option ℕ) (t : Tableau) (w : IsWhole t) (f : Matrix) (cost :
       others : (k : ℕ) → ((r : ℕ) → r < i → r < t.rows → is_place but r ≡ false → basic_at t r ≢ k) →
           get_or values k 0ℚ ≡ value_at t k
 
+    -- where the columns of the first i positions are moved, and the run moves that of position i, those of the first i
+    -- + 1 are
     moved_step : (i : ℕ) (x y : List ℚ) → i < t.rows → Moved i x →
         cond (is_place but i) (Ok x) (moved_at limit t j theta i x) ≡ Ok y → Moved (suc i) y
     moved_step i x y i_in v h = go (is_place but i) refl h
@@ -84,6 +88,7 @@ module _ (limit : Option ℕ) (t : Tableau) (w : IsWhole t) (f : Matrix) (cost :
             })
 
     module _ (values : List ℚ) (ok : moved_run limit t j theta but ≡ Ok values) where
+      -- the run's move moves the columns of all positions
       moved_all : Moved t.rows values
       unfolding moved_run
       moved_all =
@@ -96,9 +101,11 @@ module _ (limit : Option ℕ) (t : Tableau) (w : IsWhole t) (f : Matrix) (cost :
           })
           moved_step
 
+      -- the moved values are as many as t has columns
       pub moved_length : length values ≡ all_columns t
       moved_length = moved_all.all
 
+      -- after a move, a column that is basic at no position that moved has its old value
       pub moved_others : (k : ℕ) → ((r : ℕ) → r < t.rows → is_place but r ≡ false → basic_at t r ≢ k) →
           get_or values k 0ℚ ≡ value_at t k
       moved_others k o = moved_all.others k (λ r q l s. o r l s)
@@ -106,9 +113,12 @@ module _ (limit : Option ℕ) (t : Tableau) (w : IsWhole t) (f : Matrix) (cost :
       -- where the column is not basic, these are the values along the ray
       module _ (way : Way) (j_off : (r : ℕ) → r < t.rows → ¬ (basic_at t r ≡ j))
           (ratio : ℚ) (same : theta ≡ sign way *ℚ ratio) where
+        -- the move of the basic columns leaves the value of the nonbasic column j
         pub moved_own : get_or values j 0ℚ ≡ value_at t j
         moved_own = moved_others j (λ r q s. j_off r q)
 
+        -- after a move of the nonbasic column j by a ratio, each other column has the value along the ray, but for the
+        -- position that is left out
         pub moved_ray : (k : ℕ) → k ≢ j → ((r : ℕ) → r < t.rows → is_place but r ≡ true → basic_at t r ≢ k) →
             get_or values k 0ℚ ≡ moved t.rows (table_of t) way j ratio k
         moved_ray k k_other but_not =

@@ -1,6 +1,7 @@
 -- What follows where a run compares two numbers, and goes on according to their order.
 --
--- `by_order`: what follows from each of the three orders, with the result for it, holds.
+-- `by_order`: where the steps after a comparison of v and w give b, what follows from it in each of the three orders
+--   holds.
 -- `given`: what holds of a result holds of an equal result.
 use Rattle.std.proofs.Common.{◌≡◌, ℕ, Option, Ok, sym, subst}
 use Rattle.std.specs.declared.cmp.Ordering.{Ordering}

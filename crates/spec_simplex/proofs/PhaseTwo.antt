@@ -89,15 +89,19 @@ zeroed_after n (suc m) bounds all k h l =
 
 -- ---- where a tableau of phase one has all artificials at 0
 module _ (m n : ℕ) (f : Matrix) (cost : ℕ → ℚ) (b : Bounds) (t : Tableau) (s : IsTableauOf m n f cost b t) where
+  -- a column below n + m + m is a column of the tableau t
   in_all : (k : ℕ) → k < n + m + m → k < all_columns t
   in_all k l = omega (arith, l, s.rows, s.cols)
 
+  -- a column below n + m is structural or logical in the tableau t
   before_all : (k : ℕ) → k < n + m → k < form_columns t
   before_all k l = omega (arith, l, s.rows, s.cols)
 
+  -- a column from n + m on is not structural or logical in the tableau t
   after_all : (k : ℕ) → n + m ≤ k → form_columns t ≤ k
   after_all k l = omega (arith, l, s.rows, s.cols)
 
+  -- where no artificial is stuck, each artificial column has the value 0
   not_stuck_zero : is_stuck t ≡ false → (k : ℕ) → n + m ≤ k → k < n + m + m → value_at t k ≡ 0ℚ
   not_stuck_zero h k l l' =
       by_basic (status_at t k)
@@ -118,24 +122,30 @@ module _ (m n : ℕ) (f : Matrix) (cost : ℕ → ℚ) (b : Bounds) (t : Tableau
 
   -- the bounds of phase two
   module _ (reduced : List ℚ) where
+    -- the tableau t with its artificials fixed at 0 and these reduced costs
     abbrev u : Tableau
     u = with_reduced (without_artificials t) reduced
 
+    -- fixing the artificials at 0 leaves the bounds of structural and logical columns
     read_before : (bounds : List (Option ℚ)) → length bounds ≡ all_columns t → (k : ℕ) → k < form_columns t →
         get_or (fixed_at_zero (form_columns t) t.rows bounds) k None ≡ get_or bounds k None
     read_before bounds h k l = zeroed_before (form_columns t) t.rows bounds k l
 
+    -- fixing the artificials at 0 makes each bound of theirs 0
     read_after : (bounds : List (Option ℚ)) → length bounds ≡ all_columns t → (k : ℕ) → form_columns t ≤ k →
         k < all_columns t → get_or (fixed_at_zero (form_columns t) t.rows bounds) k None ≡ Some 0ℚ
     read_after bounds h k l l' = zeroed_after (form_columns t) t.rows bounds (omega (arith, h)) k l l'
 
+    -- fixing the artificials at 0 leaves as many bounds as there are columns
     read_length : (bounds : List (Option ℚ)) → length bounds ≡ all_columns t →
         length (fixed_at_zero (form_columns t) t.rows bounds) ≡ all_columns t
     read_length bounds h = zeroed_length (form_columns t) t.rows bounds ∙ h
 
+    -- in phase two each structural and logical column has its lower bound from before
     lower_same : (k : ℕ) → k < form_columns t → lower_at u k ≡ b.lower k
     lower_same k l = read_before t.lower s.whole.all_lower k l ∙ s.bounds.lower k (omega (arith, l))
 
+    -- in phase two each structural and logical column has its upper bound from before
     upper_same : (k : ℕ) → k < form_columns t → upper_at u k ≡ b.upper k
     upper_same k l = read_before t.upper s.whole.all_upper k l ∙ s.bounds.upper k l
 
@@ -149,6 +159,7 @@ module _ (m n : ℕ) (f : Matrix) (cost : ℕ → ℚ) (b : Bounds) (t : Tableau
       zero_stands AtUpper l r v e z h = ap Some (sym z)
       zero_stands AtZero l r v e z h = let y : None ≡ Some 0ℚ = sym h.0 ∙ e in cc
 
+      -- at the beginning of phase two each column stands where its status says
       stands : (k : ℕ) → k < n + m + m → Stands (status_at t k) (lower_at u k) (upper_at u k) (value_at t k)
       stands k l =
           by_lt k (n + m)
@@ -160,6 +171,7 @@ module _ (m n : ℕ) (f : Matrix) (cost : ℕ → ℚ) (b : Bounds) (t : Tableau
           (zero_stands (status_at t k) (b.lower k) (b.upper k) (value_at t k)
           (s.bounds.zero k (after_all k h) (in_all k l)) (zero k h l) (s.tableau.stands k l)))
 
+      -- where each value of t is within the bounds b, each value of u is within its own bounds
       inside : IsWithinBounds m n b t → IsWithinBounds m n (bounds_of u) u
       inside within k l =
           by_lt k (n + m)
@@ -170,6 +182,7 @@ module _ (m n : ℕ) (f : Matrix) (cost : ℕ → ℚ) (b : Bounds) (t : Tableau
           (sym (read_after t.upper s.whole.all_upper k (after_all k h) (in_all k l)))
           (subst (IsInside (Some 0ℚ) (Some 0ℚ)) (sym (zero k h l)) (record { lower = ≤ℚ_refl 0ℚ; upper = ≤ℚ_refl 0ℚ })))
 
+      -- phase two begins with a tableau of the equations and the form's costs
       second : IsTableauOf m n f costs (bounds_of u) u
       second = record {
         rows = s.rows;
@@ -207,7 +220,8 @@ module _ (m n : ℕ) (f : Matrix) (cost : ℕ → ℚ) (b : Bounds) (t : Tableau
         };
       }
 
--- what is known of phase two's start
+-- u is a start of phase two: a tableau of the equations f and of these costs, with values within its own bounds. These
+-- are b's for structural and logical columns, and 0 for artificial ones.
 pub record IsSecond (m n : ℕ) (f : Matrix) (costs : List ℚ) (b : Bounds) (u : Tableau) : Type 0 where
   pub tableau : IsTableauOf m n f (cost_at costs) (bounds_of u) u
   pub within : IsWithinBounds m n (bounds_of u) u

@@ -38,23 +38,29 @@ pub some_label : Label
 some_label = record { kind = kind.Flip; way = Up; column = 0; position = 0; theta = 0ℚ; to = Basic }
 
 module _ (limit : Option ℕ) (m : Model) (ls : List (Option ℚ × Option ℚ)) (h : Limited m ls) where
+  -- the form of the model m by the limits of its rows
   abbrev f : Form
   f = formed m ls
 
+  -- how many columns the model m has
   abbrev w : ℕ
   w = width m
 
+  -- how many rows the model m has
   abbrev r : ℕ
   r = height m
 
   -- ---- phase one
   module _ (t : Tableau) (s : Started f t) where
+    -- the equations of the form, with the signs of the artificials by how the rows begin
     abbrev F : ℕ → ℕ → ℚ
     F = form_rows f (signs_of s.starts)
 
+    -- the cost of each column in phase one, by how the rows begin
     abbrev first_cost_at : ℕ → ℚ
     first_cost_at = cost_at (first_costs f s.starts)
 
+    -- the start has the form's bounds, and bars none of its structural and logical columns from entering
     pub first_bounds : HasBounds (formed m ls) (bounds_of t)
     first_bounds =
         record {
@@ -63,7 +69,9 @@ module _ (limit : Option ℕ) (m : Model) (ls : List (Option ℚ × Option ℚ))
           entering = λ k l. s.tableau.bounds.entering k (omega (arith, l, s.tableau.rows, s.tableau.cols));
         }
 
-    -- what is known of phase one's end
+    -- phase one ended at a tableau of the start's equations, costs and bounds, with values within these, after fewer
+    -- than 3 ^ (the number of all columns) steps. If it was wanted, no column is eligible at its end; if not, no
+    -- artificial is stuck.
     pub record IsFirst (one : PrimalEnded) : Type 0 where
       pub after : IsTableauOf (height m) (width m) (form_rows (formed m ls) (signs_of s.starts))
           (cost_at (first_costs (formed m ls) s.starts)) (bounds_of t) one.tableau
@@ -73,6 +81,7 @@ module _ (limit : Option ℕ) (m : Model) (ls : List (Option ℚ × Option ℚ))
       pub not_wanted : wants_phase_one t ≡ false → is_stuck one.tableau ≡ false
       pub few_used : one.used < 3 ^ (width m + height m + height m)
 
+    -- where phase one is not wanted, no artificial is stuck
     never_stuck : wants_phase_one t ≡ false → is_stuck t ≡ false
     never_stuck e = by (is_stuck t) refl
       where
@@ -85,6 +94,7 @@ module _ (limit : Option ℕ) (m : Model) (ls : List (Option ℚ × Option ℚ))
             (and_parts (is_artificial t (basic_at t o.0)) (not (eq_ℚ (value_at t (basic_at t o.0)) 0ℚ)) o.2).0) ∙ e in
             cc
 
+    -- phase one ends, if it does, at a tableau of the equations within the bounds, optimal if it was wanted
     first_ends : (budget : ℕ) (one : PrimalEnded) → phase_one limit budget t ≡ Ok one → IsFirst one
     first_ends budget one ok = by (wants_phase_one t) refl ok
       where
@@ -125,6 +135,7 @@ module _ (limit : Option ℕ) (m : Model) (ls : List (Option ℚ × Option ℚ))
                   few r w F first_cost_at (bounds_of t) t 0 s.tableau (stand_still r w (bounds_of t) t some_label);
             })
 
+    -- where an artificial is not 0 at the end of phase one, phase one was wanted
     pub wanted_where_stuck : (one : PrimalEnded) → IsFirst one → is_stuck one.tableau ≡ true → wants_phase_one t ≡ true
     wanted_where_stuck one o p = by (wants_phase_one t) refl
       where
@@ -135,11 +146,13 @@ module _ (limit : Option ℕ) (m : Model) (ls : List (Option ℚ × Option ℚ))
     -- ---- phase two
     module _ (one : PrimalEnded) (o : IsFirst one) (free : is_stuck one.tableau ≡ false)
         (u : Tableau) (ok : phase_two_run limit (formed m ls) one.tableau ≡ Ok u) where
+      -- phase two's start is a tableau of the equations and of the form's costs, with values within its own bounds
       two : IsSecond r w F f.cost (bounds_of t) u
       two =
           second_phase limit f r w F first_cost_at
           (bounds_of t) one.tableau u o.after o.within free (omega (arith, cost_length m ls h)) ok
 
+      -- phase two's start has the form's bounds, and bars none of its structural and logical columns from entering
       pub second_bounds : HasBounds (formed m ls) (bounds_of u)
       second_bounds = record {
         lower = λ k l. two.lower k l ∙ s.lower k l;
@@ -147,12 +160,14 @@ module _ (limit : Option ℕ) (m : Model) (ls : List (Option ℚ × Option ℚ))
         entering = λ k l. two.tableau.bounds.entering k (omega (arith, l, two.tableau.rows, two.tableau.cols));
       }
 
+      -- in phase two both bounds of each artificial column are 0
       pub second_fixed : (i : ℕ) → i < height m → (lower_at u (width m + height m + i) ≡ Some 0ℚ)
           × (upper_at u (width m + height m + i) ≡ Some 0ℚ)
       second_fixed i l = two.zero (w + r + i) (omega arith) (omega (arith, l))
 
   -- ---- both phases
-  -- they end with an artificial that is not 0, or with phase two
+  -- what holds of an end with a stuck artificial after phase one, and of each end of phase two, holds of the end of
+  -- both phases
   pub by_phases : (budget : ℕ) (P : PhasesEnd → Type 0) →
       ((t : Tableau) (s : Started (formed m ls) t) (one : PrimalEnded) → IsFirst t s one →
       is_stuck one.tableau ≡ true → P (Infeasible one.tableau one.used))
@@ -185,7 +200,8 @@ module _ (limit : Option ℕ) (m : Model) (ls : List (Option ℚ × Option ℚ))
           (budget - one.used) one.used a.0 c.0 start.tableau start.within c.1 in
           subst P z (finished t s one o e a.0 p c.0 d)
 
-  -- the tableau that phase two ends with
+  -- phase two ended at a tableau of the form's equations and costs, with bounds that are the form's for structural and
+  -- logical columns
   pub record FinishedOn (e : PrimalEnded) : Type 0 where
     pub starts : List (RowStart ℚ)
     pub bounds : Bounds
@@ -193,10 +209,14 @@ module _ (limit : Option ℕ) (m : Model) (ls : List (Option ℚ × Option ℚ))
     pub after : IsTableauOf (height m) (width m) (form_rows (formed m ls) (signs_of starts))
         (cost_at (formed m ls).cost) bounds e.tableau
 
+  -- of an end of both phases as finished: its tableau is one of the form's equations and costs; of an infeasible one
+  -- nothing is said
   abbrev pub EndsOn : PhasesEnd → Type 0
   EndsOn (Infeasible t used) = Unit {0}
   EndsOn (Finished e) = FinishedOn e
 
+  -- where both phases finish, their last tableau is one of the form's equations and costs, with bounds that suit the
+  -- form
   pub phases_finish : (budget : ℕ) (end : PhasesEnd) → phases_run limit budget f ≡ Ok end → EndsOn end
   phases_finish budget =
       by_phases budget EndsOn (λ t s one o e. tt)
@@ -208,6 +228,7 @@ module _ (limit : Option ℕ) (m : Model) (ls : List (Option ℚ × Option ℚ))
       })
 
   -- ---- a budget that is enough
+  -- with a budget of 3 ^ (the number of all columns) or more, phase one is never spent
   enough_first : (t : Tableau) (s : Started f t) (budget : ℕ) → 3 ^ (w + r + r) ≤ budget →
       phase_one limit budget t ≢ Err stop.Spent
   enough_first t s budget enough ok = by (wants_phase_one t) ok
@@ -225,6 +246,7 @@ module _ (limit : Option ℕ) (m : Model) (ls : List (Option ℚ × Option ℚ))
           ok in
           cc
 
+  -- with a budget of 2 * 3 ^ (the number of all columns) or more, phase two is never spent
   enough_second : (t : Tableau) (s : Started f t) (one : PrimalEnded) → IsFirst t s one → is_stuck one.tableau ≡ false →
       (budget : ℕ) → 2 * 3 ^ (w + r + r) ≤ budget → phase_two limit budget f one ≢ Err stop.Spent
   enough_second t s one o free budget enough ok =
@@ -252,6 +274,7 @@ module _ (limit : Option ℕ) (m : Model) (ls : List (Option ℚ × Option ℚ))
       by (first e) = never_spent (phase_two_run limit f one.tableau) e
       by (second u e ok) = go u (refused_ok stop.Past (phase_two_run limit f one.tableau) u e) ok
 
+  -- with a budget of 2 * 3 ^ (the number of all columns) or more, both phases are never spent
   pub phases_enough : (budget : ℕ) → 2 * 3 ^ (w + r + r) ≤ budget → phases_run limit budget f ≢ Err stop.Spent
   unfolding phases_run
   phases_enough budget enough ok = begin (then_err (refused_as stop.Past (start_of limit f)) _ stop.Spent ok)

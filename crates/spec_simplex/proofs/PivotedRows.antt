@@ -15,10 +15,11 @@ use Rattle.spec_simplex.proofs.ListIndices.{by_lt, past_row, past_rows}
 
 module _ (limit : Option ℕ) (m n : ℕ) (rows : List (List ℚ)) (all : length rows ≡ m)
     (whole : (i : ℕ) → i < m → length (get_or rows i []) ≡ n) (p j : ℕ) (p_in : p < m) where
+  -- the entries of the rows before the pivot, by position and column
   abbrev E : Matrix
   E = at_place rows
 
-  -- after the positions below i
+  -- row p is the pivot's row, each other row below i is cleared as by the pivot, and those from i on are the old ones
   record Turned (i : ℕ) (out : List (List ℚ)) : Type 0 where
     all_out : length out ≡ m
     whole_out : (r : ℕ) → r < m → length (get_or out r []) ≡ n
@@ -26,6 +27,8 @@ module _ (limit : Option ℕ) (m n : ℕ) (rows : List (List ℚ)) (all : length
     before : (r k : ℕ) → r < i → r ≢ p → k < n → at_place out r k ≡ pivoted E p j r k
     behind : (r : ℕ) → i ≤ r → r ≢ p → get_or out r [] ≡ get_or rows r []
 
+  -- once the pivot's row is divided by its entry in column j, the rows are those of the pivot with no other row cleared
+  -- yet
   scaled_is : (out : List (List ℚ)) → scaled_run limit n rows p j ≡ Ok out → Turned 0 out
   unfolding scaled_run
   scaled_is out h =
@@ -48,6 +51,7 @@ module _ (limit : Option ℕ) (m n : ℕ) (rows : List (List ℚ)) (all : length
         behind = λ r z d. get_or-set_other rows p r o.0 [] d;
       })
 
+  -- where the rows below i are cleared, and the run clears row i, those below i + 1 are
   step_is : (i : ℕ) (x y : List (List ℚ)) → i < m → Turned i x →
       cond (nat_eq i p) (Ok x) (cleared_run limit n p j i x) ≡ Ok y → Turned (suc i) y
   unfolding cleared_run
@@ -93,6 +97,7 @@ module _ (limit : Option ℕ) (m n : ℕ) (rows : List (List ℚ)) (all : length
           })
 
   module _ (out : List (List ℚ)) (ok : turned_run limit m n rows p j ≡ Ok out) where
+    -- the run's rows after a pivot are the pivoted ones, each row cleared
     turned_is : Turned m out
     unfolding turned_run
     turned_is =
@@ -102,13 +107,15 @@ module _ (limit : Option ℕ) (m n : ℕ) (rows : List (List ℚ)) (all : length
         steps_ok Turned m (λ i rows. cond (nat_eq i p) (Ok rows) (cleared_run limit n p j i rows)) o.0 out o.2
         (scaled_is o.0 o.1) step_is
 
+    -- after a pivot there are as many rows as before
     pub turned_rows : length out ≡ m
     turned_rows = turned_is.all_out
 
+    -- after a pivot each row has n entries
     pub turned_whole : (r : ℕ) → r < m → length (get_or out r []) ≡ n
     turned_whole = turned_is.whole_out
 
-    -- the new row p
+    -- row p after a pivot is the old row p divided by its entry in column j
     pub turned_own : (k : ℕ) → at_place out p k ≡ pivot_row E p j k
     turned_own k = by_lt k n
         (λ q. turned_is.own k q)
@@ -118,6 +125,7 @@ module _ (limit : Option ℕ) (m n : ℕ) (rows : List (List ℚ)) (all : length
         none : (a v : ℚ) → v ≡ 0ℚ → v *ℚ inverse a ≡ 0ℚ
         none a v e = ap (λ v. v *ℚ inverse a) e ∙ Rattle.spec_exact.proofs.Ruleset.zero-*ℚ (inverse a)
 
+    -- the entries after a pivot of the run are those of the pivoted matrix
     pub turned_entry : (i k : ℕ) → at_place out i k ≡ pivoted E p j i k
     turned_entry i k = by_eq i p
         (λ e. subst (λ i. at_place out i k ≡ pivoted E p j i k) (sym e) (turned_own k ∙ sym (pivoted_at E p j k)))

@@ -25,7 +25,7 @@ use Rattle.spec_simplex.proofs.Moved.{moved_length, moved_own, moved_ray}
 use Rattle.spec_simplex.proofs.PivotedRows.{turned_rows, turned_whole, turned_own, turned_entry}
 use Rattle.spec_simplex.proofs.Tables.{same_table, stand_is}
 
--- what a step leaves
+-- a step leaves the tableau u, which is v as a table. u has the sizes of t and whole lists, and keeps the bounds b
 pub record Leaves (b : Bounds) (t u : Tableau) (v : Table) : Type 0 where
   pub rows : u.rows ≡ t.rows
   pub cols : u.cols ≡ t.cols
@@ -50,24 +50,31 @@ module _ (limit : Option ℕ) (t : Tableau) (w : IsWhole t) (f : Matrix) (cost :
     (g : IsTableau t.rows (all_columns t) f cost b (table_of t)) (keeps : KeepsBounds b t)
     (way : Way) (j p : ℕ) (ratio : ℚ) (to : Status)
     (v : Exchanges t.rows (all_columns t) b (table_of t) way j p ratio to) (open_ : b.barred j ≡ false) where
+  -- the column that is basic at position p before the pivot, and leaves
   abbrev q : ℕ
   q = basic_at t p
 
+  -- column j is a column of the tableau t
   j_in : j < all_columns t
   j_in = v.in_range
 
+  -- column j is structural or logical, as it is not barred from entering
   j_before : j < form_columns t
   j_before = enters_before b t j keeps open_
 
+  -- the leaving column is a column of the tableau t
   q_in : q < all_columns t
   q_in = g.in_range p v.position
 
+  -- column j is basic at no position of t
   j_off : (r : ℕ) → r < t.rows → ¬ (basic_at t r ≡ j)
   j_off = outside t.rows (all_columns t) f cost b (table_of t) g j v.nonbasic
 
+  -- the leaving column is not column j
   q_other : q ≢ j
   q_other = j_off p v.position
 
+  -- the leaving column is basic in t
   q_basic : status_at t q ≡ Basic
   q_basic = g.marked p v.position
 
@@ -78,13 +85,16 @@ module _ (limit : Option ℕ) (t : Tableau) (w : IsWhole t) (f : Matrix) (cost :
     abbrev u : Tableau
     u = exchanged (turned t (set values j x) rows reduced) p j to
 
+    -- the moved values are as many as t has columns
     values_length : length values ≡ all_columns t
     values_length = moved_length limit t w f cost b g j (sign way *ℚ ratio) (Some p) values values_ok
 
+    -- the new reduced costs are the results of the operations on each column, in order
     reduced_list : IsListOf (all_columns t)
         (λ k. less_product limit (get_or t.reduced j 0ℚ) (at_place rows p k) (get_or t.reduced k 0ℚ)) 0ℚ reduced
     reduced_list = repriced_is limit (all_columns t) t.reduced rows p j reduced reduced_ok
 
+    -- fixing an artificial that leaves keeps the number of bounds
     leave_length : (bounds : List (Option ℚ)) → length (leave_bound t q bounds) ≡ length bounds
     leave_length bounds = by (is_artificial t q)
       where
@@ -92,6 +102,7 @@ module _ (limit : Option ℕ) (t : Tableau) (w : IsWhole t) (f : Matrix) (cost :
         by true = length-set bounds q (Some 0ℚ)
         by false = refl
 
+    -- fixing an artificial that leaves keeps the bounds of each other column
     leave_other : (bounds : List (Option ℚ)) (k : ℕ) → k ≢ q →
         get_or (leave_bound t q bounds) k None ≡ get_or bounds k None
     leave_other bounds k d = by (is_artificial t q)
@@ -100,14 +111,17 @@ module _ (limit : Option ℕ) (t : Tableau) (w : IsWhole t) (f : Matrix) (cost :
         by true = get_or-set_other bounds q k (Some 0ℚ) None d
         by false = refl
 
+    -- an artificial that leaves gets the bound 0
     leave_same : (bounds : List (Option ℚ)) → q < length bounds → form_columns t ≤ q →
         get_or (leave_bound t q bounds) q None ≡ Some 0ℚ
     leave_same bounds h l = rw (le-leb (form_columns t) q l) (get_or-set_same bounds q (Some 0ℚ) None h)
 
+    -- where the leaving column is no artificial, all bounds stay
     leave_before : (bounds : List (Option ℚ)) → q < form_columns t →
         get_or (leave_bound t q bounds) q None ≡ get_or bounds q None
     leave_before bounds l = rw (lt-leb (form_columns t) q l) refl
 
+    -- the tableau after the pivot has lists of the right lengths
     u_whole : IsWhole u
     u_whole = record {
       all_rows = turned_rows limit t.rows (all_columns t) t.entries w.all_rows w.whole_rows p j v.position rows rows_ok;
@@ -123,6 +137,7 @@ module _ (limit : Option ℕ) (t : Tableau) (w : IsWhole t) (f : Matrix) (cost :
       all_upper = leave_length t.upper ∙ w.all_upper;
     }
 
+    -- after the run's pivot each column has the value that it has along the ray
     value_is : (k : ℕ) → value_at u k ≡ moved t.rows (table_of t) way j ratio k
     value_is k =
         by_eq k q
@@ -147,6 +162,8 @@ module _ (limit : Option ℕ) (t : Tableau) (w : IsWhole t) (f : Matrix) (cost :
         turn : (v s r : ℚ) → v +ℚ s *ℚ r ≡ v +ℚ r *ℚ s
         turn v s r = simp ring
 
+    -- after the run's pivot the reduced cost of column k is the old one less that of column j times the new pivot row's
+    -- entry
     reduced_is : (k : ℕ) → reduced_at u k ≡ reduced_at t k -ℚ reduced_at t j *ℚ pivot_row (entry_at t) p j k
     reduced_is k =
         by_lt k (all_columns t)
@@ -162,11 +179,13 @@ module _ (limit : Option ℕ) (t : Tableau) (w : IsWhole t) (f : Matrix) (cost :
         none : (a : ℚ) → 0ℚ -ℚ a *ℚ 0ℚ ≡ 0ℚ
         none a = simp ring
 
+    -- after the run's pivot column j is basic, the column that left has the status `to`, and each other one its old one
     status_is : (k : ℕ) → status_at u k ≡ status_set (status_set (status_at t) q to) j Basic k
     status_is k =
         set_reads (set t.status q to) j Basic Basic (omega (arith, length-set t.status q to, w.all_statuses, j_in)) k
         ∙ ap (λ s. cond (nat_eq k j) Basic s) (set_reads t.status q to Basic (omega (arith, w.all_statuses, q_in)) k)
 
+    -- after the run's pivot the table is that after the pivot of the table
     table_is : table_of u ≡ after_pivot t.rows (table_of t) way j p ratio to
     table_is =
         same_table (table_of u) (after_pivot t.rows (table_of t) way j p ratio to)
@@ -174,7 +193,8 @@ module _ (limit : Option ℕ) (t : Tableau) (w : IsWhole t) (f : Matrix) (cost :
         (set_reads t.basic p j 0 (omega (arith, w.all_basic, v.position)))
         value_is reduced_is status_is
 
-    -- where a column stands afterwards
+    -- what follows where k is column j, where it is the leaving column, with the status `to`, and where it is another
+    -- one, with its old status, holds
     by_status : {P : Type 0} (k : ℕ) → (k ≡ j → P) → (k ≡ q → status_at u k ≡ to → P) →
         (k ≢ q → status_at u k ≡ status_at t k → P) → P
     by_status {P} k f h i =
@@ -184,6 +204,7 @@ module _ (limit : Option ℕ) (t : Tableau) (w : IsWhole t) (f : Matrix) (cost :
         off : k ≢ j → status_set (status_set (status_at t) q to) j Basic k ≡ status_set (status_at t) q to k
         off o = rw (ne_eqb k j o) refl
 
+    -- the tableau after the pivot keeps the bounds b
     u_bounds : KeepsBounds b u
     u_bounds = record {
       lower = λ k l. by_eq k q
@@ -212,9 +233,12 @@ module _ (limit : Option ℕ) (t : Tableau) (w : IsWhole t) (f : Matrix) (cost :
           (λ d z. leave_other t.upper k d ∙ keeps.fixed k h l (λ y. s (z ∙ y)));
     }
 
+    -- the tableau after the pivot is, as a table, the one after a pivot of columns j and q, with the lists and bounds
+    -- to match
     leaves : Leaves b t u (after_pivot t.rows (table_of t) way j p ratio to)
     leaves = record { rows = refl; cols = refl; whole = u_whole; table = table_is; bounds = u_bounds }
 
+  -- a pivot of the run leaves the table that a pivot of the table leaves, with the statuses and bounds to match
   pub pivot_leaves : (u : Tableau) → pivot_run limit t p j (sign way *ℚ ratio) to ≡ Ok u →
       Leaves b t u (after_pivot t.rows (table_of t) way j p ratio to)
   unfolding pivot_run shifted_run

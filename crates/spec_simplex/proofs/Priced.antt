@@ -16,13 +16,17 @@ use Rattle.spec_simplex.proofs.RunParts.{less_ok, steps_ok, IsListOf, list_ok}
 use Rattle.spec_simplex.proofs.ListIndices.{by_lt}
 
 module _ (limit : Option ℕ) (t : Tableau) (costs reduced : List ℚ) (ok : priced_run limit t costs ≡ Ok reduced) where
+  -- the run gives the reduced cost of each column, in order
   list : IsListOf (all_columns t) (reduced_run limit t costs) 0ℚ reduced
   unfolding priced_run
   list = list_ok (all_columns t) (reduced_run limit t costs) 0ℚ reduced ok
 
+  -- there are as many reduced costs as t has columns
   pub priced_length : length reduced ≡ all_columns t
   priced_length = list.all
 
+  -- the reduced cost of a column is its cost less the sum, over the rows, of the basic column's cost times the row's
+  -- entry
   less_rows : (k : ℕ) → k < all_columns t →
       get_or reduced k 0ℚ ≡ cost_at costs k -ℚ sum_below t.rows (λ i. cost_at costs (basic_at t i) *ℚ entry_at t i k)
   less_rows k h =
@@ -43,6 +47,8 @@ module _ (limit : Option ℕ) (t : Tableau) (costs reduced : List ℚ) (ok : pri
 
   module _ (few : length costs ≤ all_columns t)
       (past : (i k : ℕ) → i < t.rows → all_columns t ≤ k → entry_at t i k ≡ 0ℚ) where
+    -- the reduced costs that the run gives are the costs less the sum, over the rows, of the basic column's cost times
+    -- the row's entry
     less_all : (k : ℕ) →
         get_or reduced k 0ℚ ≡ cost_at costs k -ℚ sum_below t.rows (λ i. cost_at costs (basic_at t i) *ℚ entry_at t i k)
     less_all k =
@@ -52,6 +58,7 @@ module _ (limit : Option ℕ) (t : Tableau) (costs reduced : List ℚ) (ok : pri
         (sum_below_none t.rows _ (λ i l. ap (λ a. cost_at costs (basic_at t i) *ℚ a) (past i k l h) ∙ *ℚ_zero _))
         ∙ +ℚ_neg 0ℚ))
 
+    -- the reduced costs that the run gives are the costs less a combination of the rows, and 0 in the basic columns
     pub priced_agrees : (f : Matrix) → Spans t.rows (entry_at t) f →
         IsUnit t.rows (entry_at t) (basic_at t) → ((i : ℕ) → i < t.rows → basic_at t i < all_columns t)
         → AgreesWith t.rows f (basic_at t) (cost_at costs) (λ k. get_or reduced k 0ℚ)

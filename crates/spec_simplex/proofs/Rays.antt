@@ -17,7 +17,7 @@ use Rattle.spec_pivot.proofs.SameEquations.{outside, j_outside}
 use Rattle.spec_pivot.proofs.Ray.{ray_at, ray_still, cost_ray}
 use Rattle.spec_pivot.proofs.Values.{by_basic, ray_cost, better}
 
--- no bound stops a move by r
+-- a move by r meets no bound: there is no lower bound, or r is at least 0; and no upper bound, or r is at most 0
 pub record IsFree (l u : Option ℚ) (r : ℚ) : Type 0 where
   pub lower : IfSome l (λ _. 0ℚ ≤ℚ r)
   pub upper : IfSome u (λ _. r ≤ℚ 0ℚ)
@@ -92,6 +92,7 @@ own_allowed l u v Down AtLower c s o = absurd c
 
 module _ (m n : ℕ) (f : Matrix) (c : ℕ → ℚ) (b : Bounds) (t : Table)
     (g : IsTableau m n f c b t) (way : Way) (j : ℕ) (e : GoesOn m n b t way j) where
+  -- no bound stops a column along the ray of an entering column that is never stopped
   pub allowed : (k : ℕ) → k < n → IsFree (b.lower k) (b.upper k) (ray m t way j k)
   allowed k h =
       by_basic (t.status k)
@@ -105,6 +106,7 @@ module _ (m n : ℕ) (f : Matrix) (c : ℕ → ℚ) (b : Bounds) (t : Table)
       (λ o. still_allowed (b.lower k) (b.upper k) (ray m t way j k)
       (ray_still m t g.units way j (j_outside m n f c b t g way j e.enters) k o (outside m n f c b t g k s))))
 
+  -- the cost falls along the ray of an entering column that is never stopped
   pub falls : sum_below n (λ k. c k *ℚ ray m t way j k) <ℚ 0ℚ
   falls = subst (λ a. a <ℚ 0ℚ)
       (sym (ray_cost m n f c b t g way j e.enters) ∙ cost_ray m t g.units way j (j_outside m n f c b t g way j e.enters)

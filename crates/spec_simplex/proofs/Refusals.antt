@@ -14,19 +14,23 @@ use Rattle.spec_exact.proofs.Compare.{compare_gives, compare_unlimited}
 use Rattle.spec_exact.specs.Run.{Run, ◌>>=◌, refused_as, sum_run, difference_run, product_run}
 use Rattle.spec_exact.specs.Run.{quotient_run, order_run, plus_product, less_product, steps, list_run}
 
--- by which errors are refusals
+-- the run o at a limit agrees with the run u without one: u is not refused, and o is the same as u or is refused.
+-- `kind` makes an error of each refusal
 pub record Agrees {A E : Type 0} (kind : Past ℚ → E) (o u : Result A E) : Type 0 where
   pub exact : (p : Past ℚ) → u ≢ Err (kind p)
   pub same : (o ≡ u) ⊎ ((p : Past ℚ) × (o ≡ Err (kind p)))
 
+-- the refusal itself as the error that it is
 abbrev pub as_it_is : Past ℚ → Past ℚ
 as_it_is p = p
 
 module _ {E : Type 0} (kind : Past ℚ → E) where
+  -- a run that gives a agrees with one that gives a
   pub agrees_ok : {A : Type 0} (a : A) → Agrees kind (Ok a) (Ok a)
   agrees_ok {A} a =
       record { exact = λ p e. let z : ◌≡◌ {A = Result A E} (Ok a) (Err (kind p)) = e in cc; same = inl refl }
 
+  -- two runs that both end in the same error, which is no refusal, agree
   pub agrees_err : {A : Type 0} (e : E) → ((p : Past ℚ) → e ≢ kind p) → Agrees {A = A} kind (Err e) (Err e)
   agrees_err {A} e n =
       record {
@@ -34,6 +38,7 @@ module _ {E : Type 0} (kind : Past ℚ → E) where
         same = inl refl;
       }
 
+  -- where two runs agree, and so do what goes on from each result, they agree in turn
   pub agrees_then : {A B : Type 0} (o u : Result A E) (f g : A → Result B E) → Agrees kind o u →
       ((a : A) → Agrees kind (f a) (g a)) → Agrees kind (o >>= f) (u >>= g)
   agrees_then {A} {B} o u f g h k =
@@ -51,17 +56,20 @@ module _ {E : Type 0} (kind : Past ℚ → E) where
       last (Err e) n p z =
           n p (let y : ◌≡◌ {A = Result B E} (Err e) (Err (kind p)) = z in let x : e ≡ kind p = cc in ap Err x)
 
+  -- where two pairs of runs agree, the pair that a test picks agrees
   pub agrees_if : {A : Type 0} (c : Bool) (o p u v : Result A E) → Agrees kind o u → Agrees kind p v →
       Agrees kind (cond c o p) (cond c u v)
   agrees_if true o p u v h k = h
   agrees_if false o p u v h k = k
 
+  -- n steps agree with n steps where each one agrees with the one of the same number
   pub agrees_steps : {A : Type 0} (n : ℕ) (f g : ℕ → A → Result A E) (a : A) →
       ((i : ℕ) (x : A) → Agrees kind (f i x) (g i x)) → Agrees kind (steps n f a) (steps n g a)
   agrees_steps zero f g a h = agrees_ok a
   agrees_steps (suc n) f g a h =
       agrees_then (steps n f a) (steps n g a) (λ x. f n x) (λ x. g n x) (agrees_steps n f g a h) (h n)
 
+  -- two runs that agree do so when their refusals are renamed
   pub agrees_as : {A : Type 0} (o u : Run A) → Agrees as_it_is o u → Agrees kind (refused_as kind o) (refused_as kind u)
   agrees_as {A} o u h = on u h.exact h.same
     where
@@ -96,31 +104,38 @@ agrees_told {A} op v w a b y gives unlimited =
     by None g = record { exact = (agrees_ok as_it_is y).exact; same = inr (record { op = op; a = v; b = w }, refl) }
 
 module _ (limit : Option ℕ) where
+  -- without a limit a sum is never refused; at a limit it is the same, or it is refused
   pub agrees_sum : (v w : ℚ) → Agrees as_it_is (sum_run limit v w) (sum_run None v w)
   agrees_sum v w = agrees_told Add v w (add limit v w) (add None v w) (v +ℚ w) (add_gives limit v w) (add_unlimited v w)
 
+  -- without a limit a difference is never refused; at a limit it is the same, or it is refused
   pub agrees_difference : (v w : ℚ) → Agrees as_it_is (difference_run limit v w) (difference_run None v w)
   agrees_difference v w =
       agrees_told Sub v w (sub limit v w) (sub None v w) (v -ℚ w) (sub_gives limit v w) (sub_unlimited v w)
 
+  -- without a limit a product is never refused; at a limit it is the same, or it is refused
   agrees_product : (v w : ℚ) → Agrees as_it_is (product_run limit v w) (product_run None v w)
   agrees_product v w =
       agrees_told Mul v w (mul limit v w) (mul None v w) (v *ℚ w) (mul_gives limit v w) (mul_unlimited v w)
 
+  -- without a limit a quotient is never refused; at a limit it is the same, or it is refused
   pub agrees_quotient : (v w : ℚ) → Agrees as_it_is (quotient_run limit v w) (quotient_run None v w)
   agrees_quotient v w =
       agrees_told Div v w (div limit v w) (div None v w) (v *ℚ inverse w) (div_gives limit v w) (div_unlimited v w)
 
+  -- without a limit an order of two numbers is never refused; at a limit it is the same, or it is refused
   pub agrees_order : (v w : ℚ) → Agrees as_it_is (order_run limit v w) (order_run None v w)
   agrees_order v w =
       agrees_told Cmp v w (compare limit v w) (compare None v w)
       (order v w) (compare_gives limit v w) (compare_unlimited v w)
 
+  -- without a limit s + v * w is never refused; at a limit it is the same, or it is refused
   pub agrees_plus : (v w s : ℚ) → Agrees as_it_is (plus_product limit v w s) (plus_product None v w s)
   agrees_plus v w s =
       agrees_then as_it_is (product_run limit v w) (product_run None v w)
       (λ p. sum_run limit s p) (λ p. sum_run None s p) (agrees_product v w) (λ p. agrees_sum s p)
 
+  -- without a limit s - v * w is never refused; at a limit it is the same, or it is refused
   pub agrees_less : (v w s : ℚ) → Agrees as_it_is (less_product limit v w s) (less_product None v w s)
   agrees_less v w s =
       agrees_then as_it_is (product_run limit v w) (product_run None v w) (λ p. difference_run limit s p)

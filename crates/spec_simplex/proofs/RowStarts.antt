@@ -12,25 +12,30 @@ use Rattle.spec_simplex.specs.Start.{above_run, within_or_above, row_start_by, r
 use Rattle.spec_simplex.proofs.Orders.{by_order, given}
 use Rattle.spec_simplex.proofs.RunParts.{then_ok, difference_ok, plus_ok, steps_ok}
 
+-- the exact sum of row i at the values that the structural columns begin with
 abbrev pub first_sum : Form → ℕ → ℚ
 first_sum f i = sum_below f.cols (λ j. form_entry f i j *ℚ first_value f j)
 
--- the sum v begins a row with these limits so
+-- A row with the lower limit l, the upper limit u and the sum v begins so: within both limits with v, below l by l - v,
+-- or above u by v - u.
 pub data RowBegins (l u : Option ℚ) (v : ℚ) : RowStart ℚ → Type 0 where
   within : ((a : ℚ) → l ≡ Some a → a ≤ℚ v) → ((a : ℚ) → u ≡ Some a → v ≤ℚ a) → RowBegins l u v (Within v)
   below : (a : ℚ) → l ≡ Some a → v <ℚ a → RowBegins l u v (Below (a -ℚ v))
   above : (a : ℚ) → u ≡ Some a → a <ℚ v → RowBegins l u v (Above (v -ℚ a))
 
--- the gap to a limit, where the sum is past it
+-- the gap to the limit o, found by `gap` where o is there and `past` holds of it; none where o is absent or `beside`
+-- holds of it
 data Gap (o : Option ℚ) (beside past : ℚ → Type 0) (gap : ℚ → ℚ) : Option ℚ → Type 0 where
   none : ((a : ℚ) → o ≡ Some a → beside a) → Gap o beside past gap None
   some : (a : ℚ) → o ≡ Some a → past a → Gap o beside past gap (Some (gap a))
 
 module _ (a : ℚ) (beside past : ℚ → Type 0) (gap : ℚ → ℚ) (g : Option ℚ) where
+  -- where `beside` holds of the limit a and the run gives no gap, that is the gap to a
   no_gap : beside a → ◌≡◌ {A = Run (Option ℚ)} (Ok None) (Ok g) → Gap (Some a) beside past gap g
   no_gap h e =
       given (Gap (Some a) beside past gap) None g e (none (λ c z. let y : a ≡ c = cc in subst beside y h))
 
+  -- where `past` holds of the limit a, and the run gives v - w, which is the gap to a, that is its gap
   a_gap : (limit : Option ℕ) (v w : ℚ) → gap a ≡ v -ℚ w → past a →
       (difference_run limit v w >>= λ x. Ok (Some x)) ≡ Ok g → Gap (Some a) beside past gap g
   a_gap limit v w is h e =
@@ -38,10 +43,11 @@ module _ (a : ℚ) (beside past : ℚ → Type 0) (gap : ℚ → ℚ) (g : Optio
       let z : Some o.0 ≡ g = cc in
       subst (Gap (Some a) beside past gap) (ap Some (is ∙ sym (difference_ok limit v w o.0 o.1)) ∙ z) (some a refl h)
 
--- to the lower limit, and to the upper one
+-- the gap by which the sum v is below the lower limit l; none where it is not below or l is absent
 abbrev BelowGap : Option ℚ → ℚ → Option ℚ → Type 0
 BelowGap l v = Gap l (λ a. a ≤ℚ v) (λ a. v <ℚ a) (λ a. a -ℚ v)
 
+-- the gap by which the sum v is above the upper limit u; none where it is not above or u is absent
 abbrev AboveGap : Option ℚ → ℚ → Option ℚ → Type 0
 AboveGap u v = Gap u (λ a. v ≤ℚ a) (λ a. a <ℚ v) (λ a. v -ℚ a)
 

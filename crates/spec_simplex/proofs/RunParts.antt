@@ -78,6 +78,7 @@ steps_ok P (suc n) f a b h p k =
     let o = then_ok (steps n f a) (λ x. f n x) b h in
     k n o.0 b (omega arith) (steps_ok P n f a o.0 o.1 p (λ i x y l. k i x y (omega (arith, l)))) o.2
 
+-- xs is the list of the results of f 0 to f (n - 1), in order; d is what reading past the list gives
 pub record IsListOf {A : Type 0} (n : ℕ) (f : ℕ → Run A) (d : A) (xs : List A) : Type 0 where
   pub all : length xs ≡ n
   pub each : (i : ℕ) → i < n → f i ≡ Ok (get_or xs i d)

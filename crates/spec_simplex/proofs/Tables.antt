@@ -10,6 +10,7 @@ use Rattle.spec_pivot.specs.declared.status.Status.TheVariants.{Basic, AtLower, 
 use Rattle.spec_pivot.specs.Simplex.{Table, Stands}
 use Rattle.spec_simplex.specs.Tableau.{or_zero, stand}
 
+-- the table of these entries, basic columns, values, reduced costs and statuses
 abbrev table : (ℕ → ℕ → ℚ) → (ℕ → ℕ) → (ℕ → ℚ) → (ℕ → ℚ) → (ℕ → Status) → Table
 table e b v r s = record { entry = e; basic = b; value = v; reduced = r; status = s }
 

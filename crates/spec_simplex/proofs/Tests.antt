@@ -46,11 +46,14 @@ abs_rising Up a h = abs_above a (<ℚ-le 0ℚ a h)
 abs_rising Down a h = abs_below a (turned_down a h)
 
 -- ---- the room of a position
+-- how far a column at v, with bounds l and u, may move at the rate r until a bound stops it; none where none does
 abbrev room_by : Option ℚ → Option ℚ → ℚ → ℚ → Option ℚ
 room_by l u v r =
     cond (lt_ℚ 0ℚ r) (option_map (λ u. (u -ℚ v) *ℚ inverse r) u)
     (cond (lt_ℚ r 0ℚ) (option_map (λ l. (v -ℚ l) *ℚ inverse (neg_ℚ r)) l) None)
 
+-- the run's gap, over the absolute value of the entry a, is the room of a column at v that moves at the rate r, and its
+-- status is the bound ahead; without a gap there is no room that ends
 abbrev IsRoom : Option ℚ → Option ℚ → ℚ → ℚ → ℚ → Option (ℚ × Status) → Type 0
 IsRoom l u v r a None = room_by l u v r ≡ None
 IsRoom l u v r a (Some (gap, to)) = (room_by l u v r ≡ Some (gap *ℚ inverse (abs_ℚ a))) × (to ≡ bound_ahead (way_of r))
@@ -106,6 +109,7 @@ gap_is limit way a l u v r r_is gap h = by (lt_ℚ (directed way a) 0ℚ) (lt_�
         ) refl)
 
 -- ---- the better of two
+-- a best candidate of the run as one of the table's ratio test, without its status
 abbrev pub plain : Best ℚ → test.Best
 plain x = record { ratio = x.ratio; column = x.col; position = x.place }
 
@@ -139,7 +143,8 @@ one_of P new x Greater p q = q
 
 -- ---- the test of a tableau
 
--- what is known of the column's own range
+-- x is the entering column e itself, stopped at its other bound: its ratio is the distance of its bounds, and it has a
+-- lower one
 pub record IsRange (t : Tableau) (e : Entering) (x : Best ℚ) : Type 0 where
   pub to : x.to ≡ other_bound e.direction
   pub col : x.col ≡ e.col
@@ -149,18 +154,24 @@ pub record IsRange (t : Tableau) (e : Entering) (x : Best ℚ) : Type 0 where
 module _ (limit : Option ℕ) (t : Tableau) (w : IsWhole t) (f : Matrix) (cost : ℕ → ℚ) (b : Bounds)
     (g : IsTableau t.rows (all_columns t) f cost b (table_of t)) (keeps : KeepsBounds b t)
     (e : Entering) (enters : Enters (all_columns t) b (table_of t) e.direction e.col) where
+  -- the bound towards which the basic column of position p moves along the ray
   abbrev ahead : ℕ → Status
   ahead p = bound_ahead (way_of (ray t.rows (table_of t) e.direction e.col (basic_at t p)))
 
+  -- the candidate x goes where it must: at no position it is the entering column's own range, at position p its status
+  -- is the bound ahead of the basic column
   record Aims (x : Best ℚ) : Type 0 where
     flip : x.place ≡ None → IsRange t e x
     pivot : (p : ℕ) → x.place ≡ Some p → x.to ≡ ahead p
 
+  -- the best of the run is that of the table's ratio test over the first i positions and the entering column's own
+  -- range, and goes where it must
   record Found (i : ℕ) (best : Option (Best ℚ)) : Type 0 where
     same : option_map plain best ≡ scan i (room_at t.rows b (table_of t) e.direction e.col)
         (basic_at t) (range_of e.col (b.lower e.col) (b.upper e.col))
     aims : (x : Best ℚ) → best ≡ Some x → Aims x
 
+  -- the best that the run begins with is the entering column's own range, as in the table's ratio test
   range_is : (l u : Option ℚ) → lower_at t e.col ≡ l → upper_at t e.col ≡ u → (best : Option (Best ℚ)) →
       range_run limit e l u ≡ Ok best →
       (option_map plain best ≡ range_of e.col l u) × ((x : Best ℚ) → best ≡ Some x → Aims x)
@@ -192,9 +203,11 @@ module _ (limit : Option ℕ) (t : Tableau) (w : IsWhole t) (f : Matrix) (cost :
         }),
       )
 
+  -- the entering column is structural or logical
   pub e_before : e.col < form_columns t
   e_before = enters_before b t e.col keeps enters.eligible.may_enter.0
 
+  -- the best ratio of no position is the distance between the entering column's own bounds, if there is one
   found_range : (best : Option (Best ℚ)) → range_run limit e (lower_at t e.col) (upper_at t e.col) ≡ Ok best →
       Found 0 best
   found_range best h =
@@ -204,7 +217,8 @@ module _ (limit : Option ℕ) (t : Tableau) (w : IsWhole t) (f : Matrix) (cost :
         aims = r.1;
       }
 
-  -- one more position
+  -- where the best ratio of the first i positions is found, and the run makes `next` of it at position i, that of the
+  -- first i + 1 is `next`
   found_step : (i : ℕ) (best next : Option (Best ℚ)) → i < t.rows → Found i best →
       best_with limit t e i best ≡ Ok next → Found (suc i) next
   found_step i best next i_in was h = with_one o.0 o.2 there
@@ -297,6 +311,7 @@ module _ (limit : Option ℕ) (t : Tableau) (w : IsWhole t) (f : Matrix) (cost :
           with_best c.0 to room_is.1 best was.same was.aims c.2
           (room_same ∙ room_is.0 ∙ ap Some (sym (quotient_ok limit gap (abs_ℚ (entry_at t i e.col)) c.0 c.1)))
 
+  -- the best ratio that the run finds is that of all positions
   found_all : (best : Option (Best ℚ)) → best_run limit t e ≡ Ok best → Found t.rows best
   found_all best h =
       let o =
@@ -304,16 +319,22 @@ module _ (limit : Option ℕ) (t : Tableau) (w : IsWhole t) (f : Matrix) (cost :
       (λ best. steps t.rows (best_with limit t e) best) best h in
       steps_ok Found t.rows (best_with limit t e) o.0 best o.2 (found_range o.0 o.1) found_step
 
+  -- where the run finds no best ratio, the ratio test of the table finds none
   pub no_best : best_run limit t e ≡ Ok None → best_of t.rows b (table_of t) e.direction e.col ≡ None
   no_best h = sym (found_all None h).same
 
+  -- the best ratio that the run finds is the one of the table's ratio test
   pub a_best : (x : Best ℚ) → best_run limit t e ≡ Ok (Some x) →
       best_of t.rows b (table_of t) e.direction e.col ≡ Some (plain x)
   a_best x h = sym (found_all (Some x) h).same
 
+  -- where the best ratio that the run finds is at no position, it is the distance between the entering column's own
+  -- bounds
   pub best_range : (x : Best ℚ) → best_run limit t e ≡ Ok (Some x) → x.place ≡ None → IsRange t e x
   best_range x h = ((found_all (Some x) h).aims x refl).flip
 
+  -- where the best ratio that the run finds is at position p, its column leaves at the bound towards which it moves
+  -- along the ray
   pub best_ahead : (x : Best ℚ) → best_run limit t e ≡ Ok (Some x) → (p : ℕ) → x.place ≡ Some p →
       x.to ≡ bound_ahead (way_of (ray t.rows (table_of t) e.direction e.col (basic_at t p)))
   best_ahead x h = ((found_all (Some x) h).aims x refl).pivot

@@ -24,6 +24,7 @@ use Rattle.spec_simplex.proofs.RunParts.{then_ok, refused_ok}
 use Rattle.spec_simplex.proofs.LeastIndexSteps.{choice_is_meant}
 
 -- ---- what ends in a certain error
+-- the two parts o and f end in the error e together: o does, or o gives a result and f ends in e with it
 pub data ThenErr {A B E : Type 0} (o : Result A E) (f : A → Result B E) (e : E) : Type 0 where
   first : o ≡ Err e → ThenErr o f e
   second : (a : A) → o ≡ Ok a → f a ≡ Err e → ThenErr o f e
@@ -40,12 +41,15 @@ never_spent {A} (Err p) h =
     let y : stop.Past p ≡ stop.Spent = cc in cc
 
 -- ---- steps, one after the other
+-- a walk of so many steps by Bland's rule from the tableau t: tables, of which the first is t, and the label of the
+-- step from each to the next
 pub record Walk (m n : ℕ) (b : Bounds) (t : Tableau) (length : ℕ) : Type 0 where
   pub tables : ℕ → Table
   pub labels : ℕ → Label
   pub first : tables 0 ≡ table_of t
   pub steps : (i : ℕ) → i < length → IsStep m (n + m + m) b (labels i) (tables i) (tables (suc i))
 
+-- the sequence that begins with x and goes on with f
 unfoldable pub before : {A : Type 0} → A → (ℕ → A) → ℕ → A
 before x f zero = x
 before x f (suc i) = f i
@@ -82,6 +86,8 @@ few m n f cost b t length s w =
     (record { first = subst (IsTableau m (n + m + m) f cost b) (sym w.first) s.tableau; steps = w.steps })
 
 -- ---- the run
+-- the steps from t ended as e says, by Bland's rule: at a tableau of the equations, costs and bounds, with values
+-- within these, of which the end is true, after as many steps as e counts beyond `used`
 pub record IsEnd (limit : Option ℕ) (m n : ℕ) (f : Matrix) (cost : ℕ → ℚ)
     (b : Bounds) (t : Tableau) (used : ℕ) (e : PrimalEnded) : Type 0 where
   pub after : IsTableauOf m n f cost b e.tableau
@@ -92,6 +98,7 @@ pub record IsEnd (limit : Option ℕ) (m n : ℕ) (f : Matrix) (cost : ℕ → �
   pub walk : Walk m n b t length
 
 module _ (limit : Option ℕ) (m n : ℕ) (f : Matrix) (cost : ℕ → ℚ) (b : Bounds) (l : Label) where
+  -- where the choice at a tableau is an end, a run that ends there has ended by the method, after no step
   ends_here : (t : Tableau) (used : ℕ) (e : PrimalEnded) (choice : Choice ℚ) → IsTableauOf m n f cost b t →
       IsWithinBounds m n b t → choice_run limit t ≡ Ok choice → end_or_spent t used choice ≡ Ok e →
       IsEnd limit m n f cost b t used e
@@ -109,6 +116,7 @@ module _ (limit : Option ℕ) (m n : ℕ) (f : Matrix) (cost : ℕ → ℚ) (b :
   ends_here t used e (Flip j) s i c h = err_not_ok stop.Spent e h
   ends_here t used e (Pivot p j theta to) s i c h = err_not_ok stop.Spent e h
 
+  -- an end after steps from u, to which t steps, is an end after one step more from t
   on_from : (t u : Tableau) (used : ℕ) (e : PrimalEnded) → StepsTo m n f cost b t u →
       IsEnd limit m n f cost b u (used + 1) e → IsEnd limit m n f cost b t used e
   on_from t u used e step r =
@@ -121,6 +129,8 @@ module _ (limit : Option ℕ) (m n : ℕ) (f : Matrix) (cost : ℕ → ℚ) (b :
         walk = step_first m n b t u r.length step.label step.step r.walk;
       }
 
+  -- where a run from a tableau of the equations within its bounds ends, its end is one of the method, after as many
+  -- steps by Bland's rule as it counts
   pub run_ends : (left used : ℕ) (t : Tableau) (e : PrimalEnded) → IsTableauOf m n f cost b t →
       IsWithinBounds m n b t → run_from limit left used t ≡ Ok e → IsEnd limit m n f cost b t used e
   unfolding run_from

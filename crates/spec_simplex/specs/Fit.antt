@@ -16,78 +16,87 @@ use Rattle.spec_simplex.specs.declared.ends.Leaving.{Leaving}
 
 -- ---- the first basic column that is outside its bounds
 
--- whether the value v is below a lower bound, where there is one
+-- whether the value v is below a lower bound; no where there is no bound. The comparison may be refused.
 abbrev pub below_lower : Option ℕ → Option ℚ → ℚ → Run Bool
 below_lower limit None v = Ok false
 below_lower limit (Some l) v = order_run limit v l >>= λ o. Ok (is_lt o)
 
--- v is above the upper bound, where there is one
+-- whether the value v is above an upper bound; no where there is no bound. The comparison may be refused.
 abbrev pub above_upper : Option ℕ → Option ℚ → ℚ → Run Bool
 above_upper limit None v = Ok false
 above_upper limit (Some u) v = order_run limit v u >>= λ o. Ok (is_gt o)
 
--- a value that is below the lower bound is not compared with the upper one
+-- The way in which v comes back inside its bounds, by whether it is below the lower one: up if it is, without a further
+-- comparison; else down if it is above the upper one, and none if it is inside. The comparison may be refused.
 abbrev pub outside_by : Option ℕ → Option ℚ → ℚ → Bool → Run (Option Way)
 outside_by limit upper v true = Ok (Some Up)
 outside_by limit upper v false = above_upper limit upper v >>= λ above. Ok (if above then Some Down else None)
 
--- the way in which v comes back inside its bounds, if it is below the lower one or above the upper one
+-- the way in which v comes back inside its bounds: up from below, down from above, and none where it is inside. A
+-- comparison may be refused.
 abbrev pub outside_run : Option ℕ → Option ℚ → Option ℚ → ℚ → Run (Option Way)
 outside_run limit lower upper v = below_lower limit lower v >>= outside_by limit upper v
 
--- column k as the one that leaves, if its value is outside its bounds
+-- column k with the way in which its value comes back inside its bounds; none where it is inside. A comparison may be
+-- refused.
 abbrev pub leaving_at : Option ℕ → Tableau → ℕ → Run (Option Leaving)
 leaving_at limit t k =
     outside_run limit (lower_at t k) (upper_at t k) (value_at t k) >>=
     λ out. Ok (option_map (λ way. record { col = k; direction = way }) out)
 
--- the leaving column that was found before, or column k if it is basic and outside its bounds. Nothing is compared
--- after the first one.
+-- The leaving column that was found before, or column k if it is basic and outside its bounds. Nothing is compared
+-- after the first one. A comparison may be refused.
 abbrev pub leaving_with : Option ℕ → Tableau → ℕ → Option Leaving → Run (Option Leaving)
 leaving_with limit t k (Some x) = Ok (Some x)
 leaving_with limit t k None = if is_basic (status_at t k) then leaving_at limit t k else Ok None
 
--- the first basic column that is outside its bounds
+-- the first basic column that is outside its bounds, with its way back inside; none where each is within. A comparison
+-- may be refused.
 abbrev pub leaving_run : Option ℕ → Tableau → Run (Option Leaving)
 leaving_run limit t = steps (all_columns t) (leaving_with limit t) None
 
 -- ---- reduced costs
 
--- a column of this status and reduced cost needs its other bound
+-- whether a reduced cost d suits the other bound and not that of this status: d below 0 at the lower one, d above 0 at
+-- the upper one. A basic column and one without bounds need no flip
 abbrev pub needs_flip : Status → ℚ → Bool
 needs_flip Basic d = false
 needs_flip AtLower d = lt_ℚ d 0ℚ
 needs_flip AtUpper d = lt_ℚ 0ℚ d
 needs_flip AtZero d = false
 
--- a column has the other bound if it needs it; a column without bounds has the reduced cost 0
+-- whether a column of this status and reduced cost d suits d where it is, or has the other bound if it needs that one;
+-- a column at 0 suits only 0, and a basic one always does
 abbrev pub meets_need : Status → ℚ → Option ℚ → Option ℚ → Bool
 meets_need Basic d lower upper = true
 meets_need AtLower d lower upper = not (lt_ℚ d 0ℚ) || is_some upper
 meets_need AtUpper d lower upper = not (lt_ℚ 0ℚ d) || is_some lower
 meets_need AtZero d lower upper = eq_ℚ d 0ℚ
 
--- column k needs its other bound. A fixed column needs nothing
+-- whether column k of the tableau needs to go to its other bound, by its status and its reduced cost. A fixed column
+-- needs nothing
 abbrev pub needs_flip_at : Tableau → ℕ → Bool
 needs_flip_at t k = not (is_fixed (lower_at t k) (upper_at t k)) && needs_flip (status_at t k) (reduced_at t k)
 
--- column k can have the sign of its reduced cost, at one of its bounds
+-- whether column k, where it is or at its other bound, suits its reduced cost; a fixed column always does
 abbrev pub meets_need_at : Tableau → ℕ → Bool
 meets_need_at t k =
     is_fixed (lower_at t k) (upper_at t k) || meets_need (status_at t k) (reduced_at t k) (lower_at t k) (upper_at t k)
 
--- each of the first n columns can have the sign of its reduced cost
+-- whether each of the first n columns suits its reduced cost, where it is or at its other bound
 abbrev pub all_meet : Tableau → ℕ → Bool
 all_meet t zero = true
 all_meet t (suc n) = all_meet t n && meets_need_at t n
 
 -- ---- the fit
 
--- what the fit of a tableau is, by the basic column that has to leave, if one has
+-- the fit of a tableau, by the first basic column outside its bounds: primal where there is none; else dual where each
+-- column suits its reduced cost, where it is or at its other bound; else unfit
 abbrev pub fit_by : Tableau → Option Leaving → Fit
 fit_by t None = Primal
 fit_by t (Some x) = if all_meet t (all_columns t) then Dual else Unfit
 
--- whether a tableau is primal feasible, can be made dual feasible by flips, or neither
+-- the fit of a tableau: primal, where each basic column is within its bounds; else dual, where flips can make it dual
+-- feasible; else unfit. A comparison may be refused.
 unfoldable pub fit_run : Option ℕ → Tableau → Run Fit
 fit_run limit t = leaving_run limit t >>= λ x. Ok (fit_by t x)

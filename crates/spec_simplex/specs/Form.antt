@@ -17,7 +17,8 @@ use Rattle.spec_simplex.specs.declared.ends.FormFault.{FormFault}
 use Rattle.spec_simplex.specs.declared.ends.FormFault.TheVariants as fault
 use Rattle.spec_exact.specs.Run.{Run, ◌>>=◌, refused_as, order_run, steps, list_run}
 
--- a linear program of bounds alone, whose costs are to be least. Column `cols + i` is the logical column of row i
+-- a linear program in computational form: structural columns with entries in rows, and for each row i the logical
+-- column `cols + i`, whose bounds are the limits of the row. The cost is to be made least
 pub record Form : Type 0 where
   pub rows : ℕ
   pub cols : ℕ
@@ -26,7 +27,9 @@ pub record Form : Type 0 where
   pub upper : List (Option ℚ)
   pub cost : List ℚ
 
--- a form within limits of size
+-- The form f has at most as many rows and structural columns as the limits say. Each structural column has entries in
+-- rows of f, one at most in each, in their order and not 0. Each column of f has a cost and two bounds, which may be
+-- absent.
 pub record IsFormWithin (limits : SizeLimits) (f : Form) : Type 0 where
   pub few_rows : f.rows ≤ limits.rows
   pub few_columns : f.cols ≤ limits.columns
@@ -36,19 +39,20 @@ pub record IsFormWithin (limits : SizeLimits) (f : Form) : Type 0 where
   pub all_costs : length f.cost ≡ f.cols + f.rows
   pub columns : All (AreEntries f.rows) f.entries
 
--- a form of a usual model, of which tableaus are made
+-- the form is within the limits of a usual model: at most 256 rows and 512 structural columns. Tableaus are made of
+-- such forms alone
 abbrev pub IsForm : Form → Type 0
 IsForm f = IsFormWithin usual_limits f
 
--- a_ij, the coefficient of column j in row i
+-- the coefficient of structural column j in row i of the form; 0 where there is none, as for a logical column
 abbrev pub form_entry : Form → ℕ → ℕ → ℚ
 form_entry f i j = entry_of (get_or f.entries j []) i
 
--- the lower bound of column k, structural or logical
+-- the lower bound of column k of the form, structural or logical; none where it is absent
 abbrev pub form_lower : Form → ℕ → Option ℚ
 form_lower f k = get_or f.lower k None
 
--- the upper bound of column k, structural or logical
+-- the upper bound of column k of the form, structural or logical; none where it is absent
 abbrev pub form_upper : Form → ℕ → Option ℚ
 form_upper f k = get_or f.upper k None
 
@@ -58,25 +62,27 @@ form_cost f k = get_or f.cost k 0ℚ
 
 -- ---- the limits of a row, the lower one first
 
--- the lower and the upper limit of a row
+-- the lower and the upper limit of the row r, each none where it is absent; or the refusal of the first one that cannot
+-- be computed at the limit of numbers
 abbrev pub limits_run : Option ℕ → ExactRow → Run (Option ℚ × Option ℚ)
 limits_run limit r = lower_run limit r >>= λ l. upper_run limit r >>= λ u. Ok (l, u)
 
 -- ---- a fault where the bounds of column j clash
 
--- a fault of column j where its lower bound is found greater than its upper one
+-- a fault of column j where its lower bound compares as greater with its upper one; else no fault
 abbrev pub clash_by : ℕ → Ordering → Result (Unit {0}) (FormFault ℚ)
 clash_by j Less = Ok tt
 clash_by j Equal = Ok tt
 clash_by j Greater = Err (fault.Clash j)
 
--- a fault where the bounds of column j clash
+-- a fault where the lower bound of column j is above its upper one, or where comparing them is past the limit; none
+-- where a bound is absent
 abbrev pub bounds_clash : Option ℕ → ℕ → Option ℚ → Option ℚ → Result (Unit {0}) (FormFault ℚ)
 bounds_clash limit j None upper = Ok tt
 bounds_clash limit j (Some l) None = Ok tt
 bounds_clash limit j (Some l) (Some u) = refused_as fault.Past (order_run limit l u) >>= λ o. clash_by j o
 
--- a fault where the bounds of column j of a model clash
+-- a fault where the bounds of column j of a model clash, or where comparing them is past the limit
 abbrev pub column_clash : Option ℕ → Model → ℕ → Result (Unit {0}) (FormFault ℚ)
 column_clash limit m j = bounds_clash limit j (column m j).lower (column m j).upper
 
@@ -89,7 +95,8 @@ least_cost Max c = neg_ℚ c
 
 -- ---- the form: the columns of the model, then its rows
 
--- the form of a model, by the limits of its rows
+-- the form of the model m whose rows have these lower and upper limits: its columns and then its rows, with costs that
+-- are negated where the model asks for the greatest objective
 abbrev pub formed : Model → List (Option ℚ × Option ℚ) → Form
 formed m limits =
     record {
@@ -101,7 +108,8 @@ formed m limits =
       cost = map (λ c. least_cost m.sense c.cost) m.columns ++ replicate (height m) 0ℚ;
     }
 
--- first the limits of all rows in order, then the bounds of all columns in order
+-- the form of a model, or why it has none. First the limits of all rows are taken, in order; then the bounds of all
+-- columns are compared, in order. The first refusal or clash is the fault
 unfoldable pub form_of : Option ℕ → Model → Result Form (FormFault ℚ)
 form_of limit m =
     refused_as fault.Past (list_run (height m) (λ i. limits_run limit (row m i))) >>= λ limits.

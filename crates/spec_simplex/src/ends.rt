@@ -18,7 +18,7 @@ pub enum FormFault<F: Debug> {
     Past(Past<F>),
 }
 
-/// How a row begins, by its sum where each structural column stands at its first place.
+/// How a row begins, by its sum where each structural column has its first value: the sum, or its gap to a limit.
 #[derive(Clone, Copy)]
 pub enum RowStart<F> {
     /// The sum is within the row's limits.
@@ -36,7 +36,7 @@ pub struct Entering {
     pub direction: Way,
 }
 
-/// The least ratio so far, and the column that it stops.
+/// The least ratio of a ratio test so far, the column that stops the entering column there, and where it goes.
 #[derive(Clone, Copy)]
 pub struct Best<F> {
     pub ratio: F,
@@ -56,7 +56,7 @@ pub enum PrimalEnd {
     Unbounded { col: u32, direction: Way },
 }
 
-/// What a step does.
+/// What a step of the primal method does: an end, a flip or a pivot.
 #[derive(Clone, Copy)]
 pub enum Choice<F> {
     End(PrimalEnd),
@@ -73,18 +73,19 @@ pub enum Choice<F> {
     },
 }
 
-/// Why a run does not end by itself.
+/// Why steps of the simplex method stop before an end.
 #[derive(Clone, Copy)]
 pub enum RunStop<F: Debug> {
     /// The operation that is past the limit.
     Past(Past<F>),
-    /// As many pivots and flips were made as the budget has.
+    /// As many pivots and flips were made as the budget has, and one more is due.
     Spent,
 }
 
 impl<F: Debug> From<Past<F>> for RunStop<F> {
     ghost from_gives = { λ p e. e ≡ stop.Past p };
 
+    // The refusal of the operation p as the stop of a run.
     fn from(p: Past<F>) -> Self {
         RunStop::Past(p)
     }
@@ -99,13 +100,15 @@ pub enum StartStop<F: Debug> {
     Past(Past<F>),
 }
 
-/// Whether a tableau is primal feasible, dual feasible or neither.
+/// Whether a tableau is primal feasible, can be made dual feasible by flips, or neither.
 #[derive(Clone, Copy)]
 pub enum Fit {
-    /// Each value is within its bounds.
+    /// Each basic value is within its bounds.
     Primal,
-    /// Each reduced cost has the sign that it needs, or gets it when the column goes to its other bound.
+    /// A basic value is outside its bounds. Each reduced cost of a column that is not fixed has the sign that it needs,
+    /// or gets it when the column goes to its other bound.
     Dual,
+    /// A basic value is outside its bounds, and flips do not make the tableau dual feasible.
     Unfit,
 }
 
@@ -116,7 +119,7 @@ pub struct Leaving {
     pub direction: Way,
 }
 
-/// The least ratio so far, and its column.
+/// The least ratio of the dual method so far, and the column that would enter with it.
 #[derive(Clone, Copy)]
 pub struct Cheapest<F> {
     pub ratio: F,
@@ -126,14 +129,14 @@ pub struct Cheapest<F> {
 /// How a run of the dual method ends.
 #[derive(Clone, Copy)]
 pub enum DualEnd {
-    /// Each value is within its bounds.
+    /// Each basic value is within its bounds.
     Optimal,
     /// The column at this position has to move in this direction to come back inside its bounds, and no column can
     /// bring it back.
     Infeasible { position: u32, direction: Way },
 }
 
-/// What a dual step does.
+/// What a step of the dual method does: an end or a pivot.
 #[derive(Clone, Copy)]
 pub enum DualChoice {
     End(DualEnd),
@@ -146,10 +149,10 @@ pub enum DualChoice {
 pub enum WarmStop<F: Debug> {
     /// The basis has no tableau.
     Singular,
-    /// Its tableau is neither primal nor dual feasible.
+    /// Its tableau is neither primal feasible, nor dual feasible after flips.
     Unfit,
     /// The operation that is past the limit.
     Past(Past<F>),
-    /// As many pivots and flips were made as the budget has.
+    /// As many pivots and flips were made as the budget has, and one more is due.
     Spent,
 }

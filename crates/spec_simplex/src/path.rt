@@ -28,22 +28,26 @@ ghost use Rattle.spec_simplex.specs.Phases.{is_stuck, phase_two_run};
 ghost use Rattle.spec_simplex.specs.Tables.{bounds_of, IsTableauOf, IsWithinBounds, IsMeant};
 ghost use Rattle.spec_simplex.specs.Begins.{IsProper, Begins};
 
-/// The flips and pivots that a run chooses are steps by the rule of the least index, to tableaus of the same rows,
-/// costs and bounds. Where it ends, no column is eligible, or the one that enters is never stopped.
+/// From a tableau with each value within its bounds, a flip or pivot that a run chooses is a step by the rule of the
+/// least index, if no operation is refused. It leads to a tableau of the same rows, costs and bounds. Where the run
+/// chooses an end, no column is eligible, or the one that enters is never stopped.
 pub fn steps_mean_pivots()
     ensures { (limit : Option ℕ) (m n : ℕ) (f : Matrix) (cost : ℕ → ℚ) (b : Bounds) (t : Tableau) (choice : Choice ℚ) →
         IsTableauOf m n f cost b t → IsWithinBounds m n b t → choice_run limit t ≡ Ok choice →
         IsMeant m n f cost b limit t choice }
 {}
 
-/// The form of a model begins with a tableau of the form's equations, with each value within its bounds.
+/// The form that a model has is proper: it has a bound or none for each column, and none clash. A proper form begins,
+/// if no operation is refused, with a tableau of its equations and of phase one's costs, with each value within its
+/// bounds.
 pub fn starts_are_tableaus()
     ensures forms { (limit : Option ℕ) (m : Model) (f : Form) → form_of limit m ≡ Ok f → IsProper f }
     ensures starts { (limit : Option ℕ) (f : Form) (t : Tableau) → IsProper f → start_of limit f ≡ Ok t → Begins f t }
 {}
 
-/// Where phase one leaves no artificial that is not 0, phase two begins with a tableau of the same rows and of its own
-/// costs, with each value within its bounds.
+/// Phase two begins with a tableau of the same equations and of the form's costs, with each value within its own
+/// bounds. It is so where no artificial column of phase one's last tableau is basic and not 0, and no operation is
+/// refused.
 pub fn phase_two_goes_on()
     ensures { (limit : Option ℕ) (form : Form) (m n : ℕ) (f : Matrix) (cost : ℕ → ℚ) (b : Bounds) (t u : Tableau) →
         IsTableauOf m n f cost b t → IsWithinBounds m n b t → is_stuck t ≡ false →
