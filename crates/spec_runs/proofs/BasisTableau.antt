@@ -63,12 +63,14 @@ module _ (limit : Option ℕ) (f : Form) (proper : IsProper f) (basis : List Sta
         is = get_or-made f.rows (λ i. or_first (get_or e.basic i None)) 0 i h ∙ ap or_first o.1;
       }
 
+  -- each basic column of the start from a basis is structural or logical
   basic_before : (i : ℕ) → i < f.rows → basic_at t i < f.cols + f.rows
   basic_before i h = let a = at i h in subst (λ k. k < f.cols + f.rows) (sym a.is) (s.only i a.column h a.taken).0
 
   in_range : (i : ℕ) → i < f.rows → basic_at t i < n
   in_range i h = omega (arith, basic_before i h)
 
+  -- each structural and logical column has the status that the basis gives it
   status_before : (k : ℕ) → k < f.cols + f.rows → status_at t k ≡ basis_at basis k
   status_before k h = get_or_append_left basis (replicate f.rows AtLower) Basic k (omega (arith, h, fits.all))
 
@@ -91,7 +93,7 @@ module _ (limit : Option ℕ) (f : Form) (proper : IsProper f) (basis : List Sta
       ∙ get_or-append-add bounds (replicate f.rows (Some 0ℚ)) r None
       ∙ get_or-replicate f.rows r (Some 0ℚ) None h
 
-  -- an artificial by the number of its row
+  -- what holds of the artificial column of each row holds of each artificial column k
   by_artificial : (P : ℕ → Type 0) (k : ℕ) → f.cols + f.rows ≤ k → k < n →
       ((r : ℕ) → r < f.rows → P (f.cols + f.rows + r)) → P k
   by_artificial P k h l g =
@@ -104,6 +106,7 @@ module _ (limit : Option ℕ) (f : Form) (proper : IsProper f) (basis : List Sta
   upper_zero : (k : ℕ) → f.cols + f.rows ≤ k → k < n → upper_at t k ≡ Some 0ℚ
   upper_zero k h l = by_artificial (λ k. upper_at t k ≡ Some 0ℚ) k h l (bound_after f.upper proper.all_upper)
 
+  -- before the basic values are set, each column has the value that its status and bounds give
   value_is : (k : ℕ) → k < n → value_at t k ≡ stand (status_at t k) (lower_at t k) (upper_at t k)
   value_is k h = get_or-made n (basis_value f basis) 0ℚ k h
 
@@ -111,6 +114,7 @@ module _ (limit : Option ℕ) (f : Form) (proper : IsProper f) (basis : List Sta
   units : IsUnit f.rows (entry_at t) (basic_at t)
   units i r h l = let a = at i h in ap (entry_at t r) a.is ∙ s.units i a.column r h l a.taken
 
+  -- the basic column of each position has the status `Basic`
   marked : (i : ℕ) → i < f.rows → status_at t (basic_at t i) ≡ Basic
   marked i h =
       let a = at i h in
@@ -120,6 +124,7 @@ module _ (limit : Option ℕ) (f : Form) (proper : IsProper f) (basis : List Sta
   basic_inside k h b = by_lt k (f.cols + f.rows) (λ l. l)
       (λ l. let z : AtLower ≡ Basic = sym (by_artificial (λ k. status_at t k ≡ AtLower) k l h status_after) ∙ b in cc)
 
+  -- each column with the status `Basic` is basic at some position
   placed : (k : ℕ) → k < n → status_at t k ≡ Basic → (i : ℕ) × (i < f.rows) × (basic_at t i ≡ k)
   placed k h b =
       let l : k < f.cols + f.rows = basic_inside k h b in
@@ -153,6 +158,7 @@ module _ (limit : Option ℕ) (f : Form) (proper : IsProper f) (basis : List Sta
     all_values : length t.value ≡ n
     all_values = length-made n (basis_value f basis)
 
+    -- once the basic values are set, each column stands where its status says
     stands : (k : ℕ) → k < n → Stands (status_at t k) (lower_at t k) (upper_at t k) (get_or values k 0ℚ)
     stands k h =
         by_basic (status_at t k)
@@ -190,6 +196,7 @@ module _ (limit : Option ℕ) (f : Form) (proper : IsProper f) (basis : List Sta
       fixed = λ k l h b. upper_zero k l h;
     }
 
+    -- the tableau of the start is based on the form's equations, costs and bounds
     based : IsBased f.rows f.cols (equations f) (cost_at f.cost) (bounds_of u) u
     based = record {
       tableau = record {
@@ -216,6 +223,7 @@ module _ (limit : Option ℕ) (f : Form) (proper : IsProper f) (basis : List Sta
       top = upper_zero;
     }
 
+    -- the tableau of the start begins from the form: it is based on it, with the form's sizes and bounds
     begins : BeginsFrom f u
     begins = record { based = based; lower = lower_before; upper = upper_before }
 

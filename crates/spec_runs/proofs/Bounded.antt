@@ -34,21 +34,25 @@ module _ (f : Matrix) (cost : ℕ → ℚ) (b : Bounds) (t : Tableau) (s : IsBas
       (λ e. s.tableau.bounds.basic k h e)
       (λ e. s.tableau.bounds.fixed k l h e ∙ sym (s.top k l h)))
 
+  -- a column whose two bounds in the tableau are equal is one that the bounds fix
   pub fixed_is : (k : ℕ) → k < all_columns t → is_fixed (lower_at t k) (upper_at t k) ≡ true → IsFixed b k
   fixed_is k h e =
       let v = fixed_means (lower_at t k) (upper_at t k) e in
       (v.0, sym (lower_same k h) ∙ v.1, sym (upper_same k h) ∙ v.2)
 
+  -- a column that the bounds fix has two equal bounds in the tableau
   pub fixed_found : (k : ℕ) → k < all_columns t → IsFixed b k → is_fixed (lower_at t k) (upper_at t k) ≡ true
   fixed_found k h v = fixed_test (lower_at t k) (upper_at t k) v.0 (lower_same k h ∙ v.1) (upper_same k h ∙ v.2)
 
+  -- a column whose two bounds in the tableau do not test as equal is none that the bounds fix
   pub not_fixed_is : (k : ℕ) → k < all_columns t → is_fixed (lower_at t k) (upper_at t k) ≡ false → ¬ (IsFixed b k)
   not_fixed_is k h e v = let z : false ≡ true = sym e ∙ fixed_found k h v in cc
 
-  -- artificials are fixed
+  -- a column that the bounds do not fix is structural or logical, since artificial columns are fixed
   pub free_before : (k : ℕ) → k < all_columns t → ¬ (IsFixed b k) → k < form_columns t
   free_before k h free = by_lt k (form_columns t) (λ l. l) (λ l. absurd (free
       (0ℚ, s.tableau.bounds.zero k l h, s.top k l h)))
 
+  -- a column that the bounds do not fix is not barred
   pub free_open : (k : ℕ) → k < all_columns t → ¬ (IsFixed b k) → b.barred k ≡ false
   free_open k h free = s.tableau.bounds.entering k (free_before k h free)

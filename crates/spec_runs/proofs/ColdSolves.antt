@@ -1,8 +1,10 @@
 -- What a cold solve ends with is true.
 --
--- `accepted`: a certificate that shows its answer is accepted at each limit.
--- `end_accepted`: the certificate of what both phases of a model's form end with is accepted.
--- `clash_accepted`: a clash that the form of a model has is accepted as a certificate.
+-- `accepted`: a certificate that has the model's sizes and fulfils its conditions is accepted at each limit, unless an
+--   operation is refused there.
+-- `end_accepted`: the certificate of what both phases of a model's form end with is accepted, unless an operation is
+--   refused.
+-- `clash_accepted`: a clash that the form of a model has is accepted as a certificate, unless an operation is refused.
 -- `by_accepted`: the check of an accepted certificate gives what it shows, or says that an operation is refused.
 -- `same_or_refused`: what is made of a check at a limit is made of the one without a limit, or of a refused operation.
 -- `end_is_true`: an answer and a certificate equal to those of a true end hold of the model and pass the check.

@@ -113,6 +113,7 @@ module _ (limit : Option ℕ) (f : Matrix) (cost : ℕ → ℚ) (b : Bounds) (t 
   row_is : (k : ℕ) → directed way (entry_at t p k) ≡ row_of (table_of t) way p k
   row_is k = directed_is way (entry_at t p k)
 
+  -- where the test of column k gives no direction, the column is no candidate
   not_candidate : (k : ℕ) → k < all_columns t → dual_way_at t p way k ≡ None → ¬ (Candidate k)
   not_candidate k h e c = by (is_fixed (lower_at t k) (upper_at t k)) refl e
     where
@@ -123,6 +124,7 @@ module _ (limit : Option ℕ) (f : Matrix) (cost : ℕ → ℚ) (b : Bounds) (t 
           way_none (status_at t k) (directed way (entry_at t p k)) e
           (subst (Helps (status_at t k)) (sym (row_is k)) c.helps)
 
+  -- where the test of column k gives a direction, the column is a candidate
   a_candidate : (k : ℕ) (w : Way) → k < all_columns t → dual_way_at t p way k ≡ Some w → Candidate k
   a_candidate k w h e = by (is_fixed (lower_at t k) (upper_at t k)) refl e
     where
@@ -148,6 +150,7 @@ module _ (limit : Option ℕ) (f : Matrix) (cost : ℕ → ℚ) (b : Bounds) (t 
   CheapestIs n None = (k : ℕ) → k < n → ¬ (Candidate k)
   CheapestIs n (Some x) = IsLeast n x
 
+  -- where column k is a candidate, the cheaper of it and the cheapest below k is the cheapest below k + 1
   with_one : (k : ℕ) (q : ℚ) → k < all_columns t → Candidate k → q ≡ ratio (table_of t) p k →
       (best next : Option (Cheapest ℚ)) → CheapestIs k best →
       cheaper_run limit (record { ratio = q; col = k }) best ≡ Ok next → CheapestIs (suc k) next
@@ -176,6 +179,7 @@ module _ (limit : Option ℕ) (f : Matrix) (cost : ℕ → ℚ) (b : Bounds) (t 
             (was.least i (omega (arith, l, y)) d));
       })
 
+  -- where column k is no candidate, the cheapest below k is the cheapest below k + 1
   without_one : (k : ℕ) (best : Option (Cheapest ℚ)) → ¬ (Candidate k) → CheapestIs k best → CheapestIs (suc k) best
   without_one k None n was =
       λ i l. by_eq i k (λ y. subst (λ i. ¬ (Candidate i)) (sym y) n) (λ y. was i (omega (arith, l, y)))
@@ -186,6 +190,7 @@ module _ (limit : Option ℕ) (f : Matrix) (cost : ℕ → ℚ) (b : Bounds) (t 
     least = λ i l d. by_eq i k (λ y. absurd (n (subst Candidate y d))) (λ y. was.least i (omega (arith, l, y)) d);
   }
 
+  -- where the cheapest below k is known, what the run makes of it at column k is the cheapest below k + 1
   step : (k : ℕ) (best next : Option (Cheapest ℚ)) → k < all_columns t → CheapestIs k best →
       cheapest_with limit t p way k best ≡ Ok next → CheapestIs (suc k) next
   step k best next h was ok = by (dual_way_at t p way k) refl ok
@@ -201,15 +206,18 @@ module _ (limit : Option ℕ) (f : Matrix) (cost : ℕ → ℚ) (b : Bounds) (t 
           with_one k o.0 h (a_candidate k w h e)
           (quotient_ok limit (abs_ℚ (reduced_at t k)) (abs_ℚ (entry_at t p k)) o.0 o.1) best next was o.2
 
+  -- what the run finds is the cheapest of all columns
   cheapest_is : (best : Option (Cheapest ℚ)) → cheapest_run limit t p way ≡ Ok best → CheapestIs (all_columns t) best
   cheapest_is best ok =
       steps_ok CheapestIs (all_columns t) (cheapest_with limit t p way) None best ok
       (λ k l. absurd (let z : ⊥ = omega (arith, l) in z)) step
 
+  -- where the run finds no cheapest column at position p, no column is a candidate there
   pub none_cheapest : cheapest_run limit t p way ≡ Ok None → (k : ℕ) → k < all_columns t →
       ¬ (IsCandidate b (table_of t) way p k)
   none_cheapest ok = cheapest_is None ok
 
+  -- the cheapest column that the run finds at position p is the table's: a candidate of the least ratio
   pub a_cheapest : (x : Cheapest ℚ) → cheapest_run limit t p way ≡ Ok (Some x) →
       IsCheapest (all_columns t) b (table_of t) way p x.col
   a_cheapest x ok =

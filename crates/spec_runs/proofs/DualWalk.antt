@@ -23,12 +23,14 @@ module _ (limit : Option ℕ) (m n : ℕ) (f : Matrix) (cost : ℕ → ℚ) (b :
   own_ready : (t : Tableau) → IsReady m n f cost b t → IsReady t.rows t.cols f cost b t
   own_ready t s = subst₂ (λ m n. IsReady m n f cost b t) (sym s.based.tableau.rows) (sym s.based.tableau.cols) s
 
+  -- what the run chooses in a ready tableau is an end or a step of the dual method
   pub ready_meant : (t : Tableau) (choice : DualChoice) → IsReady m n f cost b t → dual_choice_run limit t ≡ Ok choice →
       IsDualMeant m n b t choice
   ready_meant t choice s h =
       subst₂ (λ m n. IsDualMeant m n b t choice) s.based.tableau.rows s.based.tableau.cols
       (choice_meant limit f cost b t (own_ready t s).based choice h)
 
+  -- a dual pivot of the run takes a ready tableau to a ready one
   pub ready_next : (t u : Tableau) (p j : ℕ) (way : Way) → IsReady m n f cost b t → IsDualStep m n b t p j way →
       dual_pivot_run limit t p j (bound_behind way) ≡ Ok u → IsReady m n f cost b u
   ready_next t u p j way s d h =
@@ -36,6 +38,7 @@ module _ (limit : Option ℕ) (m n : ℕ) (f : Matrix) (cost : ℕ → ℚ) (b :
       (pivot_ready limit f cost b t (own_ready t s).based (own_ready t s).feasible p j way
       (subst₂ (λ m n. IsDualStep m n b t p j way) (sym s.based.tableau.rows) (sym s.based.tableau.cols) d) u h)
 
+  -- a dual pivot of the run in a ready tableau leaves the table that `after_dual` gives
   pub next_table : (t u : Tableau) (p j : ℕ) (way : Way) → IsReady m n f cost b t →
       (d : IsDualStep m n b t p j way) → dual_pivot_run limit t p j (bound_behind way) ≡ Ok u
       → table_of u ≡ after_dual m (table_of t) way p j d.bound
@@ -57,6 +60,8 @@ module _ (limit : Option ℕ) (m n : ℕ) (f : Matrix) (cost : ℕ → ℚ) (b :
     pub after : IsReady m n f cost b e.tableau
     pub end : IsDualMeant m n b e.tableau (End e.end)
 
+  -- where the dual choice at a ready tableau ends the steps, the end is one of the dual method, and the tableau is
+  -- ready still
   ends_here : (t : Tableau) (used : ℕ) (e : DualEnded) (choice : DualChoice) → IsReady m n f cost b t →
       dual_choice_run limit t ≡ Ok choice → dual_end_or_spent t used choice ≡ Ok e → IsDualEnd e
   ends_here t used e (End end) s c h =
@@ -75,6 +80,7 @@ module _ (limit : Option ℕ) (m n : ℕ) (f : Matrix) (cost : ℕ → ℚ) (b :
       more o.0 (ready_next t o.0 p j d.0 s d.1
       (ap (dual_pivot_run limit t p j) (sym d.2) ∙ refused_ok stop.Past (dual_pivot_run limit t p j to) o.0 o.1)) o.2
 
+  -- dual steps from a ready tableau end, if they do, at an end of the dual method
   pub dual_ends : (left used : ℕ) (t : Tableau) (e : DualEnded) → IsReady m n f cost b t →
       dual_from limit left used t ≡ Ok e → IsDualEnd e
   unfolding dual_from

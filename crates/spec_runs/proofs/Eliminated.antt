@@ -83,6 +83,7 @@ module _ (limit : Option ℕ) (f : Form) (basis : List Status) where
     pub only : (i k : ℕ) → i < f.rows → get_or e.basic i None ≡ Some k → (k < j) × (basis_at basis k ≡ Basic)
     pub count : filled e.basic f.rows ≡ basics_below basis j
 
+  -- before elimination no position has a column
   none_yet : (i : ℕ) → i < f.rows → get_or (unsolved f).basic i None ≡ None
   none_yet i h = get_or-replicate f.rows i None None h
 
@@ -93,6 +94,7 @@ module _ (limit : Option ℕ) (f : Form) (basis : List Status) where
       ∙ (let z : filled (unsolved f).basic i ≡ 0 = none_filled i (omega (arith, h)) in
       let y : filled (unsolved f).basic i + 0 ≡ 0 = omega (arith, z) in y)
 
+  -- the unsolved equations are solved for the basic columns below 0
   begins : Solving 0 (unsolved f)
   begins = record {
     all_rows = length-made f.rows (equation f);
@@ -147,6 +149,7 @@ module _ (limit : Option ℕ) (f : Form) (basis : List Status) where
         ∙ ap (λ i. get_or (set e.basic p (Some j)) i None) (sym z) ∙ h in let x : k ≡ j = cc in x))
         (λ z. g z (sym (get_or-set_other e.basic p i (Some j) None z) ∙ h))
 
+    -- after a pivot at position p and column j, the basic columns, with j at p, are those of the unit matrix
     units_kept : (i k r : ℕ) → i < f.rows → r < f.rows → get_or (set e.basic p (Some j)) i None ≡ Some k →
         pivoted (at_place e.rows) p j r k ≡ delta i r
     units_kept i k r h l e' =
@@ -155,6 +158,8 @@ module _ (limit : Option ℕ) (f : Form) (basis : List Status) where
         (sym z) (sym y) (new_unit (at_place e.rows) p j r o.entry))
         (λ z y. kept (at_place e.rows) p j r k (s.units i k p h o.position y ∙ delta_other i p z) ∙ s.units i k r h l y)
 
+    -- where the equations are solved for the basic columns below j, and column j takes position p, they are solved for
+    -- those below j + 1
     solved : Solving (suc j) next
     solved = record {
       all_rows =
@@ -209,7 +214,7 @@ module _ (limit : Option ℕ) (f : Form) (basis : List Status) where
       by true c h = place (open_below e j f.rows) refl (basic_if (basis_at basis j) c) h
       by false c h = subst (Solving (suc j)) (ok_same e u h) (goes_by j e c s)
 
-  -- after some of the columns
+  -- where the steps of elimination for the columns below j give e, e is solved for the basic ones among these columns
   pub eliminated_below : (j : ℕ) (e : Elimination) →
       steps j (λ j e. cond (is_basic (basis_at basis j)) (solved_run limit f e j) (Ok e)) (unsolved f) ≡ Ok e →
       Solving j e
@@ -217,6 +222,7 @@ module _ (limit : Option ℕ) (f : Form) (basis : List Status) where
       steps_ok Solving j (λ j e. cond (is_basic (basis_at basis j)) (solved_run limit f e j) (Ok e))
       (unsolved f) e h begins (λ i x y l s k. step i x y s k)
 
+  -- where elimination gives e, e is solved for all basic columns of the form
   pub eliminated : (e : Elimination) → eliminate_run limit f basis ≡ Ok e → Solving (f.cols + f.rows) e
   unfolding eliminate_run
   eliminated e h = eliminated_below (f.cols + f.rows) e h

@@ -96,6 +96,7 @@ module _ (f : Form) (signs : ℕ → ℚ) (squares : (i : ℕ) → signs i *ℚ 
       turn : (w c d : ℚ) → w *ℚ (c *ℚ d) ≡ d *ℚ (c *ℚ w)
       turn w c d = *ℚ_comm w (c *ℚ d) ∙ ap (λ a. a *ℚ w) (*ℚ_comm c d) ∙ *ℚ_assoc d c w
 
+  -- the logical and the artificial column of one row are not both basic
   not_both : (i : ℕ) → i < f.rows → basic (f.cols + i) ≡ true → basic (f.cols + f.rows + i) ≡ true → ⊥
   not_both i h p q =
       let v = g.placed (f.cols + i) (omega (arith, h)) (basic_if (status_at t (f.cols + i)) p) in
@@ -145,6 +146,7 @@ module _ (f : Form) (signs : ℕ → ℚ) (squares : (i : ℕ) → signs i *ℚ 
       by false AtUpper = refl
       by false AtZero = refl
 
+  -- the basis of an end has as many basic columns and rows as there are rows
   basis_count : basics_below basis (f.cols + f.rows) ≡ f.rows
   basis_count =
       basics_count basis (f.cols + f.rows) ∙ count_split f.cols f.rows (λ k. is_basic (basis_at basis k))

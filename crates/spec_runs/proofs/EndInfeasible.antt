@@ -24,7 +24,7 @@ use Rattle.spec_simplex.proofs.FirstPhase.{cost_before, balance_positive}
 
 -- ---- multipliers and the limits at which values stand
 
--- a value tight at limits for a multiplier is tight at the turned limits for the multiplier's negative
+-- a value that is tight at limits for the multiplier d is tight at `turned_limits` of them for p, where d is -p
 tight_turned : (l : Limits) (d p v : ℚ) → d ≡ neg_ℚ p → IsTight l d v → IsTight (turned_limits l) p v
 tight_turned l d p v e t = record {
   above = λ h. t.below (subst₂ ◌<ℚ◌ (sym e) neg-zero (neg_strict 0ℚ p h));
@@ -42,17 +42,20 @@ module _ (m : Model) (y : List ℚ) (d v : ℕ → ℚ) (y_at : (i : ℕ) → i 
   abbrev of_rows : ℚ
   of_rows = sum_below (height m) (λ i. d (width m + i) *ℚ v (width m + i))
 
+  -- the value of each row is tight at its limits for its multiplier
   row_tight : (i : ℕ) → i < height m → IsTight (limits m i) (part y i) (v (width m + i))
   row_tight i p = subst (λ a. IsTight (limits m i) a (v (width m + i))) (sym (y_at i p)) (rows i p)
 
   column_tight : (j : ℕ) → j < width m → IsTight (turned_limits (bounds m j)) (priced m y j) (v j)
   column_tight j p = tight_turned (bounds m j) (d j) (priced m y j) (v j) (priced_at j p) (columns j p)
 
+  -- what the rows ask for is the sum of the multipliers times the rows' values
   asks_is : rows_ask m y ≡ of_rows
   asks_is =
       sum_below_same (height m) _ _ (λ i p. asked_weighs (limits m i) (part y i) (v (width m + i)) (row_tight i p)
       ∙ ap (λ a. a *ℚ v (width m + i)) (y_at i p))
 
+  -- what the columns give is minus the sum of the numbers times the columns' values
   gives_is : columns_give m y ≡ neg_ℚ of_columns
   gives_is =
       sum_below_same (width m) _ (λ j. neg_ℚ (d j *ℚ v j))
@@ -72,6 +75,8 @@ module _ (m : Model) (y : List ℚ) (d v : ℕ → ℚ) (y_at : (i : ℕ) → i 
       close : (a c : ℚ) → (a +ℚ c) +ℚ neg_ℚ a ≡ c
       close a c = simp ring
 
+  -- where multipliers are tight at values of the rows and columns, and times these sum up to more than 0, they show
+  -- that the model is infeasible
   pub checks_by_values : 0ℚ <ℚ (sum_below (width m) (λ j. d j *ℚ v j)
       +ℚ sum_below (height m) (λ i. d (width m + i) *ℚ v (width m + i))) → ChecksInfeasible m y
   checks_by_values above = record {

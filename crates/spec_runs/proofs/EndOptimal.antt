@@ -29,6 +29,7 @@ module _ (m : Model) (ls : List (Option ℚ × Option ℚ)) (h : Limited m ls)
     (b.lower (width m + height m + i) ≡ Some 0ℚ) × (b.upper (width m + height m + i) ≡ Some 0ℚ))
     (t : Table) (g : IsTableau (height m) (width m + height m + height m) (form_rows (formed m ls) signs)
     (cost_at (formed m ls).cost) b t) (within : IsWithin (width m + height m + height m) b t) where
+  -- in phase two the value of each artificial column is 0
   pub artificial_zero : (i : ℕ) → i < height m → t.value (width m + height m + i) ≡ 0ℚ
   artificial_zero i l =
       zero_inside (b.lower (width m + height m + i))
@@ -36,6 +37,7 @@ module _ (m : Model) (ls : List (Option ℚ × Option ℚ)) (h : Limited m ls)
       (fixed i l).0 (fixed i l).1 (within (width m + height m + i) (omega (arith, l)))
 
   module _ (x : List ℚ) (x_length : length x ≡ width m) (x_at : (j : ℕ) → j < width m → part x j ≡ t.value j) where
+    -- the activity of row i at the point is the value of its logical column
     row_value : (i : ℕ) → i < height m → activity m x i ≡ t.value (width m + i)
     row_value i p =
         sum_below_same (width m) _ (λ j. coefficient m i j *ℚ t.value j)
@@ -61,6 +63,7 @@ module _ (m : Model) (ls : List (Option ℚ × Option ℚ)) (h : Limited m ls)
           y_at i p ∙ weight_at m ls h signs
           (cost_at (formed m ls).cost) t.reduced g.costs.weights g.costs.less i p (cost_other m ls h i)
 
+      -- the table's reduced cost of structural column j is the one by the multipliers
       reduced_at : (j : ℕ) → j < width m → t.reduced j ≡ reduced m y j
       reduced_at j p =
           column_at m ls h signs (cost_at (formed m ls).cost) t.reduced g.costs.weights g.costs.less j p

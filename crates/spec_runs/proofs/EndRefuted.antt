@@ -29,7 +29,7 @@ module _ (m : Model) (ls : List (Option ℚ × Option ℚ)) (h : Limited m ls) (
   abbrev r : ℕ
   r = height m
 
-  -- the row as costs 0 less a combination
+  -- entry k of the row is 0 less the sum, over the rows, of minus a row's weight times its entry k
   less : (k : ℕ) → a k ≡ 0ℚ -ℚ sum_below r (λ i. neg_ℚ (refutes.weights i) *ℚ equations (formed m ls) i k)
   less k =
       refutes.combined k ∙ sym (neg-neg _)
@@ -59,7 +59,7 @@ module _ (m : Model) (ls : List (Option ℚ × Option ℚ)) (h : Limited m ls) (
   B : ℚ
   B = sum_below r (λ i. a (w + i) *ℚ stops (w + i))
 
-  -- artificials stop at 0
+  -- an artificial column's entry times the value at which it stops is 0
   no_part : (i : ℕ) → i < r → a (w + r + i) *ℚ stops (w + r + i) ≡ 0ℚ
   no_part i p =
       by_sign (a (w + r + i))

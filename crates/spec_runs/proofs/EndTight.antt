@@ -40,6 +40,7 @@ module _ (b : Bounds) (t : Table) (k : ℕ) (stands : Stands (t.status k) (b.low
       (subst (λ o. IfSome o (λ c. c ≤ℚ t.value k)) f.1 within.lower)
       (subst (λ o. IfSome o (λ c. t.value k ≤ℚ c)) f.2 within.upper)
 
+  -- where nothing is eligible and the reduced cost is above 0, the value is the lower bound
   above : 0ℚ <ℚ t.reduced k → b.lower k ≡ Some (t.value k)
   above h =
       ⊎_elim
@@ -55,6 +56,7 @@ module _ (b : Bounds) (t : Table) (k : ℕ) (stands : Stands (t.status k) (b.low
       go AtZero e n =
           absurd (none Down (record { may_enter = (open_, n); status = subst (CanMove Down) (sym e) tt; improves = h }))
 
+  -- where nothing is eligible and the reduced cost is below 0, the value is the upper bound
   below : t.reduced k <ℚ 0ℚ → b.upper k ≡ Some (t.value k)
   below h =
       ⊎_elim
@@ -70,6 +72,7 @@ module _ (b : Bounds) (t : Table) (k : ℕ) (stands : Stands (t.status k) (b.low
       go AtZero e n =
           absurd (none Up (record { may_enter = (open_, n); status = subst (CanMove Up) (sym e) tt; improves = h }))
 
+  -- where nothing is eligible, the value of column k is tight at its bounds for its reduced cost
   tight : IsTight (limits_at b k) (t.reduced k) (t.value k)
   tight = record { above = above; below = below }
 
@@ -87,12 +90,14 @@ module _ (m : Model) (ls : List (Option ℚ × Option ℚ)) (h : Limited m ls) (
   F = form_rows f signs
 
   module _ (b : Bounds) (bs : HasBounds f b) where
+    -- what holds of the limits at structural column j holds of the model's bounds of column j
     pub bounds_structural : (P : Limits → Type 0) (j : ℕ) → j < w → P (limits_at b j) → P (bounds m j)
     bounds_structural P j l =
         subst₂ (λ x y. P (record { lower = x; upper = y }))
         (bs.lower j (omega (arith, l)) ∙ lower_structural m ls h j l)
         (bs.upper j (omega (arith, l)) ∙ upper_structural m ls h j l)
 
+    -- what holds of the limits at the logical column of row i holds of the model's limits of row i
     pub bounds_logical : (P : Limits → Type 0) (i : ℕ) → i < r → P (limits_at b (w + i)) → P (limits m i)
     bounds_logical P i l =
         subst₂ (λ x y. P (record { lower = x; upper = y }))
@@ -121,10 +126,13 @@ module _ (m : Model) (ls : List (Option ℚ × Option ℚ)) (h : Limited m ls) (
             tight b t k (g.stands k q) (within k q)
             (zero_at_basic r (w + r + r) F cost b t g k q) (bs.entering k l) (λ way. none way k q)
 
+        -- where no column is eligible, the value of structural column j is tight at its bounds for its reduced cost
         pub tight_structural : (j : ℕ) → j < w → IsTight (bounds m j) (t.reduced j) (t.value j)
         tight_structural j l =
             bounds_structural (λ x. IsTight x (t.reduced j) (t.value j)) j l (tight_at j (omega (arith, l)))
 
+        -- where no column is eligible, the value of row i's logical column is tight at the row's limits for its reduced
+        -- cost
         pub tight_logical : (i : ℕ) → i < r → IsTight (limits m i) (t.reduced (w + i)) (t.value (w + i))
         tight_logical i l =
             bounds_logical (λ x. IsTight x (t.reduced (w + i)) (t.value (w + i))) i l
@@ -132,6 +140,7 @@ module _ (m : Model) (ls : List (Option ℚ × Option ℚ)) (h : Limited m ls) (
 
   -- the multipliers are the weights of the reduced costs, negated
   module _ (cost d weights : ℕ → ℚ) (less : (k : ℕ) → d k ≡ cost k -ℚ sum_below r (λ i. weights i *ℚ F i k)) where
+    -- where the logical column of row i has the cost 0, its reduced cost is minus the weight of row i
     pub weight_at : (i : ℕ) → i < r → cost (w + i) ≡ 0ℚ → d (w + i) ≡ neg_ℚ (weights i)
     weight_at i p e =
         less (w + i) ∙ ap₂ (λ a c. a -ℚ c) e
@@ -140,6 +149,8 @@ module _ (m : Model) (ls : List (Option ℚ × Option ℚ)) (h : Limited m ls) (
         ∙ sum_below-delta r i weights p)
         ∙ zero-+ℚ _
 
+    -- the reduced cost of structural column j is its cost less the sum, over the rows, of minus a row's weight times
+    -- the column's coefficient there
     pub column_at : (j : ℕ) → j < w → d j ≡ cost j -ℚ sum_below r (λ i. neg_ℚ (weights i) *ℚ coefficient m i j)
     column_at j p =
         less j ∙ ap (λ s. cost j -ℚ s) (sum_below_same r _ _ (λ i q. ap (λ a. weights i *ℚ a)

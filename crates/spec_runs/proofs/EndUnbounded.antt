@@ -54,15 +54,18 @@ module _ (m : Model) (ls : List (Option ℚ × Option ℚ)) (h : Limited m ls)
   abbrev z : ℕ → ℚ
   z = ray (height m) t way j
 
+  -- the bounds of each column allow its move along the ray without end
   allowed_at : (k : ℕ) → k < n → Allows (limits_at b k) (z k)
   allowed_at k p =
       let a = allowed (height m) n F costs b t g way j e k p in record { lower = a.lower; upper = a.upper }
 
+  -- along the ray of phase two no artificial column moves
   still : (i : ℕ) → i < height m → z (width m + height m + i) ≡ 0ℚ
   still i p =
       zero_allowed (b.lower (width m + height m + i)) (b.upper (width m + height m + i)) (z (width m + height m + i))
       (fixed i p).0 (fixed i p).1 (allowed_at (width m + height m + i) (omega (arith, p)))
 
+  -- the activity of row i along the ray is the move of its logical column
   row_ray : (i : ℕ) → i < height m → activity m y i ≡ z (width m + i)
   row_ray i p =
       sum_below_same (width m) _ (λ k. coefficient m i k *ℚ z k) (λ k q. ap (λ a. coefficient m i k *ℚ a) (y_at k q))

@@ -21,6 +21,8 @@ module _ (limit : Option ℕ) (m n : ℕ) (f : Matrix) (cost : ℕ → ℚ)
   own : IsBased t.rows t.cols f cost b t
   own = own_counts m n f cost b t s
 
+  -- where the fit is `Primal` and bounds are in order, the tableau has its values within the bounds, so that the primal
+  -- method may go on from it
   pub primal_fit : IsOrdered (n + m + m) b → fit_run limit t ≡ Ok Primal →
       IsTableauOf m n f cost b t × IsWithinBounds m n b t
   primal_fit ordered h =
@@ -33,6 +35,7 @@ module _ (limit : Option ℕ) (m n : ℕ) (f : Matrix) (cost : ℕ → ℚ)
           (lower_same f cost b t own k (omega (arith, l, s.tableau.rows, s.tableau.cols)))
           (upper_same f cost b t own k (omega (arith, l, s.tableau.rows, s.tableau.cols))) q
 
+  -- where the fit is `Dual`, the tableau after its flips is ready for the dual method
   pub dual_fit : (budget : ℕ) (r : Reached) → fit_run limit t ≡ Ok Dual → flips_run limit budget t ≡ Ok r →
       IsReady m n f cost b r.tableau
   dual_fit budget r h =

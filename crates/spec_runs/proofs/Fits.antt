@@ -57,7 +57,8 @@ above_is limit (Some a) v c h =
     (λ p e. given (AboveIs (Some a) v) false c e (subst (λ x. x ≤ℚ a) (sym p) (≤ℚ_refl a)))
     (λ p e. given (AboveIs (Some a) v) true c e (a, refl, p))
 
--- within both bounds, or past one of them
+-- what a test of v says holds: without a way v is within both bounds; with one v is past the bound to which this leads
+-- back
 abbrev OutsideIs : Option ℚ → Option ℚ → ℚ → Option Way → Type 0
 OutsideIs l u v None = IsInside l u v
 OutsideIs l u v (Some way) = (c : ℚ) × IsPast way l u v c
@@ -92,7 +93,8 @@ pub record IsLeaving (t : Tableau) (n : ℕ) (x : Leaving) : Type 0 where
 abbrev InsideAt : Tableau → ℕ → Type 0
 InsideAt t k = IsInside (lower_at t k) (upper_at t k) (value_at t k)
 
--- each basic column of the first n is within its bounds, or one is not
+-- what a search for a leaving column says holds: without one each basic column of the first n is within its bounds;
+-- with one it is a basic one of these, past its bound
 abbrev pub LeavingIs : Tableau → ℕ → Option Leaving → Type 0
 LeavingIs t n None = (k : ℕ) → k < n → status_at t k ≡ Basic → IsInside (lower_at t k) (upper_at t k) (value_at t k)
 LeavingIs t n (Some x) = IsLeaving t n x
@@ -117,6 +119,8 @@ module _ (limit : Option ℕ) (t : Tableau) where
           let z : ◌≡◌ {A = Option Leaving} (Some (record { col = k; direction = way })) x = cc in
           subst (LeavingIs t (suc k)) z (record { inside = omega arith; basic = b; bound = i.0; past = i.1 })
 
+  -- where it is known which of the columns below k leaves, what the run makes of it at column k says which of those
+  -- below k + 1 does
   leaving_step : (k : ℕ) (x y : Option Leaving) → k < all_columns t → LeavingIs t k x →
       leaving_with limit t k x ≡ Ok y → LeavingIs t (suc k) y
   leaving_step k (Some x) y l was h =
@@ -135,6 +139,7 @@ module _ (limit : Option ℕ) (t : Tableau) where
           (λ z. let y : false ≡ true = sym c ∙ basic_test (status_at t k) (ap (status_at t) (sym z) ∙ e) in cc)
           (λ z. was j (omega (arith, q, z)) e))
 
+  -- what the search for a leaving column finds is the first basic column outside its bounds, or that none is
   pub leaving_is : (x : Option Leaving) → leaving_run limit t ≡ Ok x → LeavingIs t (all_columns t) x
   leaving_is x h =
       steps_ok (LeavingIs t) (all_columns t) (leaving_with limit t) None x h

@@ -1,6 +1,7 @@
 -- The flips give each reduced cost the sign that belongs to its status.
 --
--- `wrong`: a column that needs a flip is at one bound, has the other one, and its reduced cost suits the other one.
+-- `wrong`: a column that meets its need by a flip is at one bound, has the other one, and its reduced cost suits the
+--   other one.
 -- `flip_shape`: a flip gives one column the status of its other bound; besides, it changes only values.
 use Rattle.std.proofs.Common.{◌≡◌, ◌≢◌, ℕ, suc, ◌+◌, ◌<◌, ◌≤◌, List, Option, Some, None, Ok, Bool, true}
 use Rattle.std.proofs.Common.{false, not, ◌&&◌, ◌||◌, is_some, cond, nat_le, refl, sym, ap, ap₂, ◌∙◌, subst, subst₂, arith}
@@ -175,6 +176,7 @@ module _ (limit : Option ℕ) (budget m n : ℕ) (f : Matrix) (cost : ℕ → �
         Suits (status_at r.tableau k) (reduced_at r.tableau k)
     pub late : (k : ℕ) → i ≤ k → k < n + m + m → meets_need_at r.tableau k ≡ true
 
+  -- where the flips of the columns below i are done, and column i needs none, those of the columns below i + 1 are done
   pass : (i : ℕ) (r : Reached) → i < n + m + m → Flipping i r → needs_flip_at r.tableau i ≡ false → Flipping (suc i) r
   pass i r i_in v h = record {
     based = v.based;
@@ -205,6 +207,7 @@ module _ (limit : Option ℕ) (budget m n : ℕ) (f : Matrix) (cost : ℕ → �
               met_suits (status_at r.tableau i) (reduced_at r.tableau i)
               (lower_at r.tableau i) (upper_at r.tableau i) g h
 
+  -- where the flips of the columns below i are done, and column i is flipped, those of the columns below i + 1 are done
   flip : (i : ℕ) (r : Reached) (u : Tableau) → i < n + m + m → Flipping i r → needs_flip_at r.tableau i ≡ true →
       flip_run limit r.tableau i ≡ Ok u → Flipping (suc i) (one_more r u)
   flip i r u i_in v h ok =
@@ -256,6 +259,8 @@ module _ (limit : Option ℕ) (budget m n : ℕ) (f : Matrix) (cost : ℕ → �
       let o = then_ok (refused_as stop.Past (flip_run limit x.tableau i)) (λ u. Ok (one_more x u)) y h in
       subst (Flipping (suc i)) (ok_same (one_more x o.0) y o.2) (flip i x o.0 i_in v e (refused_ok stop.Past (flip_run limit x.tableau i) o.0 o.1))
 
+  -- where the flips of the columns below i are done, what the run makes of it at column i has those of the columns
+  -- below i + 1 done
   step : (i : ℕ) (x y : Reached) → i < n + m + m → Flipping i x →
       cond (needs_flip_at x.tableau i) (flip_next limit budget i x) (Ok x) ≡ Ok y → Flipping (suc i) y
   step i x y i_in v h = by (needs_flip_at x.tableau i) refl h
@@ -265,6 +270,7 @@ module _ (limit : Option ℕ) (budget m n : ℕ) (f : Matrix) (cost : ℕ → �
       by true e h = next i x y i_in v e (nat_le budget x.used) h
       by false e h = subst (Flipping (suc i)) (ok_same x y h) (pass i x i_in v e)
 
+  -- where each column meets its need, the flips of a based tableau make it ready for the dual method
   pub flips_ready : (t : Tableau) (r : Reached) → IsBased m n f cost b t →
       ((k : ℕ) → k < n + m + m → meets_need_at t k ≡ true) → flips_run limit budget t ≡ Ok r →
       IsReady m n f cost b r.tableau

@@ -25,7 +25,7 @@ use Rattle.spec_simplex.proofs.FormOfModel.{Limited, least_structural}
 abbrev Pair : Type 0
 Pair = Option ℚ × Option ℚ
 
--- a cost turned so that least is best is the cost with the sign of the sense
+-- `least_cost` of a cost is the cost with the sign of the sense: its negative where the most is best
 least_is : (s : Sense) (c : ℚ) → least_cost s c ≡ signed s c
 least_is Min c = refl
 least_is Max c = refl

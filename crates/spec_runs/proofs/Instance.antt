@@ -64,19 +64,19 @@ no_tableau =
 
 -- ---- the form, the tableaus with which its phases begin, and the end of phase one
 
--- the form of the model
+-- the form of the example's model, in which x is from 0 to 2, one row asks for x of at least 1, and -x is to be least
 form : Form
 form = given_by (form_of None model) no_form
 
--- the tableau with which phase one of the form begins
+-- the tableau with which phase one of the example's form begins
 start : Tableau
 start = given_by (start_of None form) no_tableau
 
--- the end of phase one with a budget of one step
+-- the end of phase one of the example's form, within a budget of one step
 one : PrimalEnded
 one = given_by (phase_one None 1 start) (record { end = Optimal; tableau = no_tableau; used = 0 })
 
--- the tableau with which phase two of the form begins
+-- the tableau with which phase two of the example's form begins
 second : Tableau
 second = given_by (phase_two_run None form one.tableau) no_tableau
 
@@ -96,7 +96,8 @@ record AreComputed : Type 0 where
   begun : phase_two_run None form one.tableau ≡ Ok second
   second_step : is_end (choice_run None second) ≡ false
 
--- the form, both starts and the end of phase one come out, and each start has a step that is no end
+-- the example's form, both starts and the end of phase one come out as they are written here, and at each start the
+-- choice is a step, not an end
 computed : AreComputed
 unfolding form start one second whole over gcd ◌+ℚ◌ ◌*ℚ◌ neg_ℚ inverse turned eq_ℚ lt_ℚ add sub mul div compare cross_cmp
     form_of start_of priced_run choice_run pivot_run moved_run shifted_run turned_run scaled_run cleared_run repriced_run

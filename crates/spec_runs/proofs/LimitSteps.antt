@@ -41,6 +41,7 @@ module _ (limit : Option ℕ) where
       agrees_as start.Past (solved_at limit f e j p) (solved_at None f e j p)
       (also _ _ _ _ (turned_agrees limit f.rows (f.cols + f.rows + f.rows) e.rows p j) (λ rows. ok _))
 
+  -- without a limit elimination is never refused; at a limit it is the same, or it is refused
   eliminate_agrees : (f : Form) (basis : List Status) →
       Agrees start.Past (eliminate_run limit f basis) (eliminate_run None f basis)
   unfolding eliminate_run
@@ -49,20 +50,25 @@ module _ (limit : Option ℕ) where
       (λ j e. agrees_if start.Past (is_basic (basis_at basis j)) (solved_run limit f e j) (Ok e)
       (solved_run None f e j) (Ok e) (solved_agrees f e j (open_below e j f.rows)) (agrees_ok start.Past e))
 
+  -- without a limit the value of a position is never refused; at a limit it is the same, or it is refused
   position_agrees : (t : Tableau) (i : ℕ) → Agrees as_it_is (position_run limit t i) (position_run None t i)
   position_agrees t i =
       agrees_steps as_it_is (all_columns t) _ _ 0ℚ (λ k v. agrees_if as_it_is
       (is_basic (status_at t k)) _ _ _ _ (ok v) (agrees_less limit (entry_at t i k) (value_at t k) v))
 
+  -- without a limit the values are never refused; at a limit they are the same, or they are refused
   valued_agrees : (t : Tableau) → Agrees as_it_is (valued_run limit t) (valued_run None t)
   unfolding valued_run
   valued_agrees t =
       agrees_steps as_it_is t.rows _ _ t.value (λ i values. also _ _ _ _ (position_agrees t i) (λ v. ok _))
 
+  -- without a limit the tableau that is filled with values and reduced costs is never refused; at a limit it is the
+  -- same, or it is refused
   filled_agrees : (f : Form) (t : Tableau) → Agrees as_it_is (filled_run limit f t) (filled_run None f t)
   filled_agrees f t =
       also _ _ _ _ (valued_agrees t) (λ values. also _ _ _ _ (priced_agrees limit t f.cost) (λ reduced. ok _))
 
+  -- without a limit the start from a basis is never refused; at a limit it is the same, or it is refused
   pub from_agrees : (f : Form) (basis : List Status) →
       Agrees start.Past (start_from limit f basis) (start_from None f basis)
   unfolding start_from
@@ -76,6 +82,8 @@ module _ (limit : Option ℕ) where
   below_agrees None v = ok _
   below_agrees (Some l) v = also _ _ _ _ (agrees_order limit v l) (λ o. ok _)
 
+  -- without a limit the test of a value against an upper bound is never refused; at a limit it is the same, or it is
+  -- refused
   above_agrees : (u : Option ℚ) (v : ℚ) → Agrees as_it_is (above_upper limit u v) (above_upper None u v)
   above_agrees None v = ok _
   above_agrees (Some u) v = also _ _ _ _ (agrees_order limit v u) (λ o. ok _)
@@ -85,6 +93,8 @@ module _ (limit : Option ℕ) where
   outside_by_agrees u v true = ok _
   outside_by_agrees u v false = also _ _ _ _ (above_agrees u v) (λ above. ok _)
 
+  -- without a limit the test of a value against both bounds is never refused; at a limit it is the same, or it is
+  -- refused
   outside_agrees : (l u : Option ℚ) (v : ℚ) → Agrees as_it_is (outside_run limit l u v) (outside_run None l u v)
   outside_agrees l u v = also _ _ _ _ (below_agrees l v) (outside_by_agrees u v)
 
@@ -96,10 +106,12 @@ module _ (limit : Option ℕ) where
   leaving_with_agrees t k (Some x) = ok _
   leaving_with_agrees t k None = agrees_if as_it_is (is_basic (status_at t k)) _ _ _ _ (leaving_at_agrees t k) (ok None)
 
+  -- without a limit the search for a leaving column is never refused; at a limit it is the same, or it is refused
   leaving_agrees : (t : Tableau) → Agrees as_it_is (leaving_run limit t) (leaving_run None t)
   leaving_agrees t =
       agrees_steps as_it_is (all_columns t) (leaving_with limit t) (leaving_with None t) None (leaving_with_agrees t)
 
+  -- without a limit the fit of a tableau is never refused; at a limit it is the same, or it is refused
   pub fit_agrees : (t : Tableau) → Agrees as_it_is (fit_run limit t) (fit_run None t)
   unfolding fit_run
   fit_agrees t = also _ _ _ _ (leaving_agrees t) (λ x. ok _)
@@ -111,6 +123,7 @@ module _ (limit : Option ℕ) where
       agrees_then stop.Past _ _ _ _
       (agrees_as stop.Past _ _ (flip_agrees limit r.tableau k)) (λ u. agrees_ok stop.Past _)
 
+  -- without a limit the flips of a tableau are never refused; at a limit they are the same, or they are refused
   flips_agree : (budget : ℕ) (t : Tableau) → Agrees stop.Past (flips_run limit budget t) (flips_run None budget t)
   unfolding flips_run
   flips_agree budget t =
@@ -131,6 +144,7 @@ module _ (limit : Option ℕ) where
       also _ _ _ _ (agrees_quotient limit (abs_ℚ (reduced_at t k)) (abs_ℚ (entry_at t p k)))
       (λ ratio. cheaper_agrees _ best)
 
+  -- without a limit the cheapest column is never refused; at a limit it is the same, or it is refused
   cheapest_agrees : (t : Tableau) (p : ℕ) (way : Way) →
       Agrees as_it_is (cheapest_run limit t p way) (cheapest_run None t p way)
   cheapest_agrees t p way =
@@ -142,10 +156,12 @@ module _ (limit : Option ℕ) where
   choice_of_agrees t None = ok _
   choice_of_agrees t (Some x) = also _ _ _ _ (cheapest_agrees t (place_of t x.col) x.direction) (λ best. ok _)
 
+  -- without a limit the choice of a dual step is never refused; at a limit it is the same, or it is refused
   choice_agrees : (t : Tableau) → Agrees as_it_is (dual_choice_run limit t) (dual_choice_run None t)
   unfolding dual_choice_run
   choice_agrees t = also _ _ _ _ (leaving_agrees t) (choice_of_agrees t)
 
+  -- without a limit a dual pivot is never refused; at a limit it is the same, or it is refused
   step_agrees : (t : Tableau) (p j : ℕ) (to : Status) →
       Agrees as_it_is (dual_pivot_run limit t p j to) (dual_pivot_run None t p j to)
   unfolding dual_pivot_run
@@ -179,6 +195,7 @@ module _ (limit : Option ℕ) where
       (next_agrees t used (λ u. dual_from limit left (used + 1) u)
       (λ u. dual_from None left (used + 1) u) (λ u. dual_from_agrees left (used + 1) u))
 
+  -- without a limit the dual steps are never refused; at a limit they are the same, or they are refused
   pub dual_agrees : (budget : ℕ) (t : Tableau) → Agrees stop.Past (dual_run limit budget t) (dual_run None budget t)
   unfolding dual_run
   dual_agrees budget t =

@@ -77,6 +77,7 @@ module _ (limit : Option ℕ) (budget : ℕ) where
   by_agrees t fit.Unfit =
       agrees_err fall.Past fall.Unfit (λ p e. let z : ◌≡◌ {A = WarmStop ℚ} fall.Unfit (fall.Past p) = e in cc)
 
+  -- without a limit the run from a basis is never refused; at a limit it is the same, or it is refused
   pub warm_run_agrees : (f : Form) (basis : List Status) →
       Agrees fall.Past (warm_run limit budget f basis) (warm_run None budget f basis)
   unfolding warm_run

@@ -94,6 +94,8 @@ module _ (limit : Option ℕ) (m n : ℕ) (f : Matrix) (cost : ℕ → ℚ) (b :
     tableau : IsTableauOf m n f cost b t
     within : IsWithinBounds m n b t
 
+  -- a step of the run from a tableau of these rows, costs and bounds, with each value within them, is a step by Bland's
+  -- rule
   next_is_step : (t u : Tableau) → IsGood t → IsNext limit t u → StepsTo m n f cost b t u
   next_is_step t u g x =
       by x.choice (choice_is_meant limit m n f cost b t x.choice g.tableau g.within x.chosen) x.changes x.done
@@ -104,22 +106,25 @@ module _ (limit : Option ℕ) (m n : ℕ) (f : Matrix) (cost : ℕ → ℚ) (b :
       by (Flip j) meant change done = meant u done
       by (Pivot p j theta to) meant change done = meant u done
 
+  -- the tableau after a step from a tableau within its bounds is one within its bounds
   next_good : (t u : Tableau) → IsGood t → IsNext limit t u → IsGood u
   next_good t u g x =
       let step : StepsTo m n f cost b t u = next_is_step t u g x in
       record { tableau = step.after; within = step.within }
 
+  -- the tableau after k steps from a tableau within its bounds is one within its bounds
   after_good : (k : ℕ) (t u : Tableau) → IsGood t → IsAfter limit k t u → IsGood u
   after_good zero t u g x = subst IsGood x g
   after_good (suc k) t u g x = after_good k x.0 u (next_good t x.0 g x.1) x.2
 
+  -- k steps of the run from a tableau within its bounds are a path of k steps
   path_of : (k : ℕ) (t u : Tableau) → IsGood t → IsAfter limit k t u → Path m n b t u k
   path_of zero t u g x = subst (λ u. Path m n b t u 0) x (no_step m n b t)
   path_of (suc k) t u g x =
       let step : StepsTo m n f cost b t x.0 = next_is_step t x.0 g x.1 in
       step_before m n b t x.0 u k step.label step.step (path_of k x.0 u (next_good t x.0 g x.1) x.2)
 
-  -- from a tableau on
+  -- after one step or more from such a tableau the statuses are not those that it has
   never_again : (k : ℕ) (u v : Tableau) → IsGood u → IsAfter limit k u v → 0 < k → u.status ≢ v.status
   never_again k u v g x some same =
       let p : Path m n b u v k = path_of k u v g x in
@@ -130,6 +135,7 @@ module _ (limit : Option ℕ) (m n : ℕ) (f : Matrix) (cost : ℕ → ℚ) (b :
       (record { first = subst (IsTableau m (n + m + m) f cost b) (sym p.begins) g.tableau.tableau; steps = p.steps })
       some back
 
+  -- tableaus after different numbers of steps from one within its bounds have different statuses
   never_back : (i k : ℕ) (t u v : Tableau) → IsGood t → IsAfter limit i t u → IsAfter limit k t v → i < k →
       u.status ≢ v.status
   never_back i k t u v g x y later =

@@ -40,10 +40,13 @@ module _ (limit : Option ℕ) where
   stops_here t used end e z =
       subst (CountsSteps t used) z (0, (let y : used ≡ used + 0 = omega arith in y), refl)
 
+  -- a step from t to u, and as many from u as an end counts, are one more from t
   counts_one : (t u : Tableau) (used : ℕ) (e : PrimalEnded) → IsNext limit t u → CountsSteps u (used + 1) e →
       CountsSteps t used e
   counts_one t u used e x o = (suc o.0, (let y : e.used ≡ used + suc o.0 = omega (arith, o.1) in y), (u, x, o.2))
 
+  -- where a run from t, with `used` steps before, ends, its last tableau is as many steps after t as its count is above
+  -- `used`
   pub ended_counts : (left used : ℕ) (t : Tableau) (e : PrimalEnded) → run_from limit left used t ≡ Ok e →
       CountsSteps t used e
   unfolding run_from
@@ -79,7 +82,7 @@ module _ (limit : Option ℕ) where
           })
           (more o.0 o.2)
 
-  -- a spent budget was used up by as many steps
+  -- where a run ends as spent with a budget of `left` steps, some tableau is that many steps after the first
   pub spent_counts : (left used : ℕ) (t : Tableau) → run_from limit left used t ≡ Err stop.Spent →
       (u : Tableau) × IsAfter limit left t u
   unfolding run_from
@@ -144,6 +147,7 @@ end_or_a_next t = let o = given (choice_run None t) (choice_agrees None t).exact
 
 -- ---- both phases
 module _ (limit : Option ℕ) (budget : ℕ) where
+  -- phase one ends as many steps after t as it counts
   one_counts : (t : Tableau) (one : PrimalEnded) → phase_one limit budget t ≡ Ok one → CountsSteps limit t 0 one
   one_counts t one ok = by (wants_phase_one t) ok
     where
@@ -155,6 +159,7 @@ module _ (limit : Option ℕ) (budget : ℕ) where
           stops_here limit t 0 Optimal one
           (ok_same {E = RunStop ℚ} (record { end = Optimal; tableau = t; used = 0 }) one ok)
 
+  -- where phase one is spent, some tableau is as many steps after t as the budget
   one_spent : (t : Tableau) → phase_one limit budget t ≡ Err stop.Spent → (u : Tableau) × IsAfter limit budget t u
   one_spent t ok = by (wants_phase_one t) ok
     where
@@ -208,10 +213,13 @@ module _ (limit : Option ℕ) (budget : ℕ) where
             } in
             subst EndsSo z (a.0, two, o.0, o.1, o.2)
 
+    -- where both phases end as infeasible after `used` steps, the tableau is that many steps after the form's start
     pub infeasible_counts : (t : Tableau) (used : ℕ) → phases_run limit budget f ≡ Ok (Infeasible t used) →
         (s : Tableau) × (start_of limit f ≡ Ok s) × IsAfter limit used s t
     infeasible_counts t used = ends_so (Infeasible t used)
 
+    -- where both phases finish, the tableau is as many steps after the beginning of phase two as the end counts beyond
+    -- phase one
     pub finished_counts : (e : PrimalEnded) → phases_run limit budget f ≡ Ok (Finished e) →
         (t : Tableau) × (two : BeginsPhaseTwo limit budget f t) × (k : ℕ) × (e.used ≡ two.one.used + k)
         × IsAfter limit k t e.tableau
@@ -247,6 +255,8 @@ module _ (limit : Option ℕ) (budget : ℕ) where
             go u (refused_ok stop.Past (phase_two_run limit f one.tableau) u e)
             (then_err (run_from limit (budget - one.used) one.used u) (λ two. Ok (Finished two)) stop.Spent ok)
 
+    -- where both phases are spent, the whole budget of steps was made in phase one, or what phase one left of it in
+    -- phase two
     pub spent_so : phases_run limit budget f ≡ Err stop.Spent →
         ((t u : Tableau) × (start_of limit f ≡ Ok t) × IsAfter limit budget t u)
         ⊎ ((t u : Tableau) × (two : BeginsPhaseTwo limit budget f t) × IsAfter limit (budget - two.one.used) t u)

@@ -39,7 +39,8 @@ module _ (limit : Option ℕ) (m : Model) (ls : List (Option ℚ × Option ℚ))
   abbrev first_cost_at : (t : Tableau) → Started f t → ℕ → ℚ
   first_cost_at t s = cost_at (first_costs f s.starts)
 
-  -- an artificial that is not 0
+  -- where an artificial is not 0 at the end of phase one, the multipliers of its last tableau show that the model is
+  -- infeasible
   stuck_shows : (t : Tableau) (s : Started f t) (one : PrimalEnded) → IsFirst limit m ls h t s one →
       is_stuck one.tableau ≡ true →
       Shows m (certificate.Infeasible (multipliers one.tableau))
@@ -74,6 +75,7 @@ module _ (limit : Option ℕ) (m : Model) (ls : List (Option ℚ × Option ℚ))
       (second_bounds limit m ls h t s one o free u ok)
       (second_fixed limit m ls h t s one o free u ok) limit e d.after d.within d.end
 
+  -- the certificate of what both phases of a model's form end with shows its answer of the model
   pub phases_show : (budget : ℕ) (end : PhasesEnd) → phases_run limit budget f ≡ Ok end → Shows m (certificate_of end)
   phases_show budget =
       by_phases limit m ls h budget (λ end. Shows m (certificate_of end)) stuck_shows end_shows

@@ -40,6 +40,7 @@ module _ (m n : ℕ) (f : ℕ → ℕ → ℚ) (cost : ℕ → ℚ) (b : Bounds)
   pub multipliers_length : length (multipliers t) ≡ m
   multipliers_length = length-made t.rows (λ i. reduced_at t (t.cols + i)) ∙ s.rows
 
+  -- multiplier i of a tableau is the reduced cost of the logical column of row i
   pub multiplier_at : (i : ℕ) → i < m → part (multipliers t) i ≡ reduced_at t (n + i)
   multiplier_at i l =
       get_or-made t.rows (λ i. reduced_at t (t.cols + i)) 0ℚ i (omega (arith, l, s.rows))
@@ -48,6 +49,7 @@ module _ (m n : ℕ) (f : ℕ → ℕ → ℚ) (cost : ℕ → ℚ) (b : Bounds)
   pub direction_length : (j : ℕ) (way : Way) → length (direction t j way) ≡ n
   direction_length j way = length-made t.cols (moves_by t j way) ∙ s.cols
 
+  -- entry k of a direction is how the positions move structural column k
   pub direction_at : (j : ℕ) (way : Way) (k : ℕ) → k < n → part (direction t j way) k ≡ moves_below t j way k m
   direction_at j way k l =
       get_or-made t.cols (moves_by t j way) 0ℚ k (omega (arith, l, s.cols)) ∙ ap (moves_below t j way k) s.rows
@@ -68,6 +70,7 @@ module _ (m : Model) (ls : List (Option ℚ × Option ℚ)) (h : Limited m ls)
   abbrev costs : ℕ → ℚ
   costs = cost_at (formed m ls).cost
 
+  -- where artificials are fixed at 0, the certificate of a meant end of the primal method shows its answer of the model
   pub primal_shows : (limit : Option ℕ) (e : PrimalEnded) → IsTableauOf r w F costs b e.tableau →
       IsWithinBounds r w b e.tableau → IsMeant r w F costs b limit e.tableau (End e.end) →
       Shows m (certificate_at e.tableau e.end)

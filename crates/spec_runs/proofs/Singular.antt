@@ -70,7 +70,8 @@ module _ (limit : Option ℕ) (f : Form) (basis : List Status) (j : ℕ)
   abbrev column : ℕ → ℕ
   column i = or_first (get_or e.basic i None)
 
-  -- a position has a column before column j, or its entry there is 0
+  -- what follows where position i has a column before j that is basic, and what follows where its entry in column j is
+  -- 0, holds
   by_position : {P : Type 0} (i : ℕ) → i < m →
       ((column i < j) → basis_at basis (column i) ≡ Basic → get_or e.basic i None ≡ Some (column i) → P) →
       (E i j ≡ 0ℚ → P) → P
@@ -100,6 +101,7 @@ module _ (limit : Option ℕ) (f : Form) (basis : List Status) (j : ℕ)
   unfolding solution
   own = ap₂ ◌-ℚ◌ (delta_same j) (no_part j (λ i h l p z. let y : ⊥ = omega (arith, l, z) in y)) ∙ whole 1ℚ
 
+  -- `solution` is 0 for each column but j and the basic ones before it
   others : (k : ℕ) → k ≢ j → ¬ ((k < j) × (basis_at basis k ≡ Basic)) → solution k ≡ 0ℚ
   unfolding solution
   others k o free =
@@ -113,7 +115,7 @@ module _ (limit : Option ℕ) (f : Form) (basis : List Status) (j : ℕ)
       by None p = subst (λ k. k < n) (sym (ap or_first p)) (omega (arith, j_in))
       by (Some k) p = subst (λ k. k < n) (sym (ap or_first p)) (let w = s.only i k h p in omega (arith, w.0, j_in))
 
-  -- the rows so far are solved
+  -- the numbers `solution` solve row r: the sum of its entries times them is 0
   row_solved : (r : ℕ) → r < m → sum_below n (λ k. E r k *ℚ solution k) ≡ 0ℚ
   unfolding solution
   row_solved r h =
@@ -142,6 +144,7 @@ module _ (limit : Option ℕ) (f : Form) (basis : List Status) (j : ℕ)
           (λ q p at. ap (λ a. E i j *ℚ a) (s.units i (column i) r l h at ∙ delta_sym i r) ∙ *ℚ_comm (E i j) (delta r i))
           (λ z. ap (λ a. a *ℚ E r (column i)) z ∙ zero-*ℚ _ ∙ sym (ap (λ a. delta r i *ℚ a) z ∙ *ℚ_zero _))
 
+  -- column j depends on the basic columns before it, by `solution`
   depends : IsDependent f basis j solution
   depends = record {
     inside = j_in;

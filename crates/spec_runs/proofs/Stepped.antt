@@ -47,6 +47,7 @@ module _ (limit : Option ℕ) (f : Matrix) (cost : ℕ → ℚ) (b : Bounds)
             (lower_same f cost b t s x.col l.inside) (upper_same f cost b t s x.col l.inside) l.past);
       }
 
+  -- what the run chooses for a leaving column is an end or a step of the dual method
   leaving_meant : (x : Leaving) (choice : DualChoice) → IsLeaving t (all_columns t) x →
       dual_choice_of limit t (Some x) ≡ Ok choice → IsDualMeant t.rows t.cols b t choice
   leaving_meant x choice l h =
@@ -74,6 +75,7 @@ module _ (limit : Option ℕ) (f : Matrix) (cost : ℕ → ℚ) (b : Bounds)
         refl,
       )
 
+  -- what the run chooses in a based tableau is an end or a step of the dual method
   pub choice_meant : (choice : DualChoice) → dual_choice_run limit t ≡ Ok choice → IsDualMeant t.rows t.cols b t choice
   unfolding dual_choice_run
   choice_meant choice h =
@@ -119,6 +121,7 @@ module _ (limit : Option ℕ) (f : Matrix) (cost : ℕ → ℚ) (b : Bounds)
         (stand to (lower_at t (basic_at t p)) (upper_at t (basic_at t p))) gap h
         ∙ ap (λ a. value_at t (basic_at t p) -ℚ a) bound_is)
 
+    -- the run's dual pivot leaves the table that `after_dual` gives
     left : (u : Tableau) → dual_pivot_by limit t p j (basic_at t p) to ≡ Ok u →
         step.Leaves b t u (after_dual t.rows (table_of t) way p j d.bound)
     left u h =
@@ -134,6 +137,7 @@ module _ (limit : Option ℕ) (f : Matrix) (cost : ℕ → ℚ) (b : Bounds)
         (subst (λ theta. pivot_run limit t p j theta to ≡ Ok u)
         (by_theta a.0 c.0 a.1 c.1 ∙ sym (one-*ℚ (shift (table_of t) p j d.bound))) c.2)
 
+    -- a tableau with the table after a dual step is ready
     ready : (u : Tableau) → step.Leaves b t u (after_dual t.rows (table_of t) way p j d.bound) →
         IsReady t.rows t.cols f cost b u
     ready u l = record {
@@ -154,12 +158,14 @@ module _ (limit : Option ℕ) (f : Matrix) (cost : ℕ → ℚ) (b : Bounds)
           (table_of t) s.tableau.tableau feasible way p j d.bound d.leaves d.cheapest);
     }
 
+    -- where a dual feasible tableau takes a dual step, the run's pivot leaves a ready tableau
     pub pivot_ready : (u : Tableau) → dual_pivot_run limit t p j (bound_behind way) ≡ Ok u →
         IsReady t.rows t.cols f cost b u
     unfolding dual_pivot_run
     pivot_ready u h =
         ready u (left u h)
 
+    -- where a dual feasible tableau takes a dual step, the run's pivot leaves the table that `after_dual` gives
     pub pivot_table : (u : Tableau) → dual_pivot_run limit t p j (bound_behind way) ≡ Ok u →
         table_of u ≡ after_dual t.rows (table_of t) way p j d.bound
     unfolding dual_pivot_run

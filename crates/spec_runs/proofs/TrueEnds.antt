@@ -1,10 +1,13 @@
 -- What a warm start ends with is true.
 --
--- `run_accepted`: the certificate of what a run from a basis of the form ends with is accepted.
+-- `run_accepted`: the certificate of what a run from a basis of the form ends with is accepted, unless an operation is
+--   refused.
 -- `run_left`: the basis that a run from a basis of the form leaves is one of the form again.
 -- `phases_left`: the basis that both phases leave is one of the form.
--- `ended_is_true`: the answer of a warm start holds of the model, and the check of its certificate gives that answer.
--- `stopped_is_stopped`: a warm start that stops, but for a refused operation, stops as the run from its basis does.
+-- `ended_is_true`: the answer of a warm start from a basis of the model's form holds of the model, and the check of its
+--   certificate gives that answer.
+-- `stopped_is_stopped`: a warm start from a basis of the model's form that stops, but for a refused operation, stops as
+--   the run from this basis does.
 use Rattle.std.proofs.Common.{◌≡◌, ◌≢◌, ℕ, List, Option, Some, None, Result, Ok, Err, refl, sym, ap, ◌∙◌, subst}
 use Rattle.spec_exact.specs.Fraction.{ℚ}
 use Rattle.spec_exact.specs.declared.past.Past.{Past}

@@ -20,6 +20,7 @@ module _ (f : Form) where
   abbrev one : ℕ → ℕ → ℚ
   one i r = one_at i r 1ℚ
 
+  -- the entry of a row that starts within its limits is the equation's
   equation_is : (i k : ℕ) → start_entry f (Within 0ℚ) i k ≡ equations f i k
   equation_is i k =
       by_kind f.cols f.rows k
@@ -30,11 +31,13 @@ module _ (f : Form) where
       (artificial_at f (neg_ℚ (form_entry f i (f.cols + f.rows + r))) (one i) (one i) r
       ∙ sym (row_artificial f (λ _. 1ℚ) i r ∙ one-*ℚ (delta i r))))
 
+  -- each row of the unsolved equations has an entry of each structural, logical and artificial column
   pub unsolved_length : (i : ℕ) → i < f.rows → length (get_or (unsolved f).rows i []) ≡ f.cols + f.rows + f.rows
   unsolved_length i h =
       ap length (get_or-made f.rows (equation f) [] i h)
       ∙ length-made (f.cols + f.rows + f.rows) (start_entry f (Within 0ℚ) i)
 
+  -- each entry of the unsolved equations is the equation's
   unsolved_entry : (i k : ℕ) → i < f.rows → at_place (unsolved f).rows i k ≡ equations f i k
   unsolved_entry i k h =
       by_lt k (f.cols + f.rows + f.rows)

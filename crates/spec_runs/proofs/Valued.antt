@@ -27,6 +27,7 @@ module _ (limit : Option ℕ) (t : Tableau) (all : length t.value ≡ all_column
   rest : ℕ → ℚ
   rest i = sum_below (all_columns t) (λ k. entry_at t i k *ℚ value_at t k)
 
+  -- the value that the run gives the basic column of position i is minus what the other columns make of row i
   position_is : (i : ℕ) (v : ℚ) → position_run limit t i ≡ Ok v → v ≡ neg_ℚ (rest i)
   unfolding rest
   position_is i v h =
@@ -84,6 +85,7 @@ module _ (limit : Option ℕ) (t : Tableau) (all : length t.value ≡ all_column
       })
 
   module _ (values : List ℚ) (ok : valued_run limit t ≡ Ok values) where
+    -- the basic columns of all positions have their values
     valued : Valued t.rows values
     unfolding valued_run
     valued =
@@ -99,6 +101,7 @@ module _ (limit : Option ℕ) (t : Tableau) (all : length t.value ≡ all_column
     pub valued_other : (k : ℕ) → ¬ (status_at t k ≡ Basic) → get_or values k 0ℚ ≡ value_at t k
     valued_other k n = valued.others k (λ r _ l e. n (ap (status_at t) (sym e) ∙ marked r l))
 
+    -- the values that the run gives solve each row r: its entries times them sum up to 0
     pub valued_solves : (r : ℕ) → r < t.rows →
         sum_below (all_columns t) (λ k. entry_at t r k *ℚ get_or values k 0ℚ) ≡ 0ℚ
     unfolding rest

@@ -135,6 +135,7 @@ module _ (limit : Option ℕ) (m : Model) (ls : List (Option ℚ × Option ℚ))
         ∙ directed_is way (entry_at u p (w + i)));
   }
 
+  -- the certificate of a meant end of the dual method, at a ready tableau, shows its answer of the model
   dual_shows : (u : Tableau) (end : DualEnd) → IsReady r w F costs (bounds_of t) u →
       IsDualMeant r w (bounds_of t) u (End end) → Shows m (dual_certificate u end)
   dual_shows u Optimal d inside =
@@ -154,6 +155,7 @@ module _ (limit : Option ℕ) (m : Model) (ls : List (Option ℚ × Option ℚ))
     pub based : IsBased (height m) (width m) (equations (formed m ls))
         (cost_at (formed m ls).cost) (bounds_of t) (end_tableau e)
 
+  -- where each column meets its need, an end of the dual run is an end of the warm start
   by_dual : (budget : ℕ) (e : DualEnded) → ((k : ℕ) → k < all_columns t → meets_need_at t k ≡ true) →
       dual_run limit budget t ≡ Ok e → IsEndOf (ByDual e)
   unfolding dual_run
@@ -166,6 +168,7 @@ module _ (limit : Option ℕ) (m : Model) (ls : List (Option ℚ × Option ℚ))
       dual_ends limit r w F costs (bounds_of t) (budget - o.0.used) o.0.used o.0.tableau e d o.2 in
       record { shows = dual_shows e.tableau e.end g.after g.end; based = g.after.based }
 
+  -- where each basic value is within its bounds, an end of the primal run is an end of the warm start
   by_primal : (budget : ℕ) (e : PrimalEnded) →
       ((k : ℕ) → k < all_columns t → status_at t k ≡ Basic → IsInside (lower_at t k) (upper_at t k) (value_at t k)) →
       run_from limit budget 0 t ≡ Ok e → IsEndOf (ByPrimal e)
@@ -202,6 +205,7 @@ module _ (limit : Option ℕ) (m : Model) (ls : List (Option ℚ × Option ℚ))
   ends_unfit : (budget : ℕ) (e : WarmEnd) → run_by limit budget t fit.Unfit ≡ Ok e → IsEndOf e
   ends_unfit budget e ok = let z : ◌≡◌ {A = Result WarmEnd (WarmStop ℚ)} (Err fall.Unfit) (Ok e) = ok in cc
 
+  -- an end of the run by the fit of the start is an end of the warm start
   fit_ends : (budget : ℕ) (kind : Fit) (e : WarmEnd) → FitIs t kind → run_by limit budget t kind ≡ Ok e → IsEndOf e
   fit_ends budget kind e =
       by_fit (λ kind. FitIs t kind → run_by limit budget t kind ≡ Ok e → IsEndOf e)
@@ -216,6 +220,7 @@ module _ (limit : Option ℕ) (m : Model) (ls : List (Option ℚ × Option ℚ))
       (basis_fits (formed m ls) (λ _. 1ℚ) (λ _. *ℚ_one 1ℚ) costs
       (bounds_of t) bounded u d.tableau.rows d.tableau.cols d.tableau.tableau)
 
+  -- the basis that an end of a warm start leaves is a basis of the model's form
   pub basis_left : (e : WarmEnd) → IsEndOf e → (left : List Status) → warm_basis e ≡ Some left →
       IsBasisOf (formed m ls) left
   basis_left (ByPrimal e) d left = by e.end
@@ -257,5 +262,6 @@ module _ (limit : Option ℕ) (m : Model) (ls : List (Option ℚ × Option ℚ))
   pub warm_shows : Shows m (warm_certificate e)
   warm_shows = went.ends.shows
 
+  -- the basis that a warm start from a basis of the form leaves is a basis of the form
   pub warm_left : (left : List Status) → warm_basis e ≡ Some left → IsBasisOf (formed m ls) left
   warm_left = basis_left limit m ls h went.opening went.begins e went.ends

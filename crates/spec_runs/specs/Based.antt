@@ -19,28 +19,31 @@ use Rattle.spec_simplex.specs.declared.ends.DualChoice.{DualChoice}
 use Rattle.spec_simplex.specs.declared.ends.DualChoice.TheVariants.{End, Pivot}
 use Rattle.spec_simplex.specs.Eliminate.{basis_at}
 
--- a tableau of these rows, costs and bounds in which artificials are fixed at 0; its basic values may be outside their
--- bounds
+-- t is a tableau of the m equations f over n structural columns, m logical and m artificial ones, with these costs and
+-- bounds, in which each artificial is fixed at 0. Its basic values may be outside their bounds.
 pub record IsBased (m n : ℕ) (f : Matrix) (cost : ℕ → ℚ) (b : Bounds) (t : Tableau) : Type 0 where
   pub tableau : IsTableauOf m n f cost b t
   pub top : (k : ℕ) → n + m ≤ k → k < n + m + m → b.upper k ≡ Some 0ℚ
 
--- a tableau as in `IsBased` that is dual feasible: each reduced cost has the sign that suits its column's status
+-- t is a tableau of these equations, costs and bounds, in which artificials are fixed at 0. It is dual feasible: the
+-- reduced cost of each column that is not fixed suits this column's status by its sign.
 pub record IsReady (m n : ℕ) (f : Matrix) (cost : ℕ → ℚ) (b : Bounds) (t : Tableau) : Type 0 where
   pub based : IsBased m n f cost b t
   pub feasible : IsDualFeasible (n + m + m) b (table_of t)
 
--- the equations of a form, in which each artificial has the sign of its logical
+-- the equations of a form, over all columns: row r has the negative of each coefficient, and 1 at the row's logical and
+-- at its artificial
 abbrev pub equations : Form → Matrix
 equations f = form_rows f (λ r. 1ℚ)
 
--- a tableau of the form's equations, costs and bounds
+-- a tableau of the form's equations and costs, in which artificials are fixed at 0; its other bounds are the form's
 pub record BeginsFrom (f : Form) (t : Tableau) : Type 0 where
   pub based : IsBased f.rows f.cols (equations f) (cost_at f.cost) (bounds_of t) t
   pub lower : (k : ℕ) → k < f.cols + f.rows → lower_at t k ≡ form_lower f k
   pub upper : (k : ℕ) → k < f.cols + f.rows → upper_at t k ≡ form_upper f k
 
--- numbers that solve the equations: 1 in the basic column j, and 0 but there and in the basic columns before it
+-- the numbers x show that the basic column j of the basis depends on the basic columns before it: they make each
+-- equation of the form 0, with 1 in column j and 0 in each column that is not j or one of those
 pub record IsDependent (f : Form) (basis : List Status) (j : ℕ) (x : ℕ → ℚ) : Type 0 where
   pub inside : j < f.cols + f.rows
   pub basic : basis_at basis j ≡ Basic
@@ -48,19 +51,23 @@ pub record IsDependent (f : Form) (basis : List Status) (j : ℕ) (x : ℕ → �
   pub others : (k : ℕ) → k ≢ j → ¬ ((k < j) × (basis_at basis k ≡ Basic)) → x k ≡ 0ℚ
   pub solves : (i : ℕ) → i < f.rows → sum_below (f.cols + f.rows + f.rows) (λ k. equations f i k *ℚ x k) ≡ 0ℚ
 
--- the column at position p is past its bound and has to go this way, and no column can bring it back
+-- the basic column at position p is past one of its bounds and has to go this way to come back, and no column may enter
+-- to bring it back
 pub record IsStuck (m n : ℕ) (b : Bounds) (t : Tableau) (p : ℕ) (way : Way) : Type 0 where
   pub bound : ℚ
   pub leaves : Leaves m b (table_of t) way p bound
   pub none : (k : ℕ) → k < n + m + m → ¬ (IsCandidate b (table_of t) way p k)
 
--- the column at position p is past its bound, and of those that can bring it back column j has the least ratio
+-- the basic column at position p is past one of its bounds and has to go this way to come back, and of the columns that
+-- may enter to bring it back column j has the least ratio of its reduced cost to its entry, both in magnitude
 pub record IsDualStep (m n : ℕ) (b : Bounds) (t : Tableau) (p j : ℕ) (way : Way) : Type 0 where
   pub bound : ℚ
   pub leaves : Leaves m b (table_of t) way p bound
   pub cheapest : IsCheapest (n + m + m) b (table_of t) way p j
 
--- no basic column is outside its bounds; or one is, and stays there, or comes back by a pivot
+-- What a choice of the dual method means. An optimal end: no basic column is outside its bounds. An infeasible end: one
+-- is outside, and none can bring it back. A pivot: one is outside, and the column with the least ratio brings it back
+-- to the bound that it was past.
 abbrev pub IsDualMeant : ℕ → ℕ → Bounds → Tableau → DualChoice → Type 0
 IsDualMeant m n b t (End Optimal) =
     (k : ℕ) → k < n + m + m → status_at t k ≡ Basic → IsInside (b.lower k) (b.upper k) (value_at t k)

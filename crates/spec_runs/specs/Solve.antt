@@ -26,24 +26,24 @@ pub record SolveEnd : Type 0 where
 abbrev pub solve_end : ExactSolveEnd × Route → SolveEnd
 solve_end s = record { end = s.0; route = s.1 }
 
--- the model has a form, and the basis is one of it
+-- the model has a form at this limit, and the basis is one of that form
 abbrev pub HasBasis : Option ℕ → Model → List Status → Type 0
 HasBasis limit m basis = (f : Form) × (form_of limit m ≡ Ok f) × IsBasisOf f basis
 
--- the stop without the operation that was refused
+-- why a warm start stopped, without the operation that was refused
 abbrev pub fall_of : WarmStop ℚ → Fall
 fall_of stop.Singular = fall.Singular
 fall_of stop.Unfit = fall.Unfit
 fall_of (stop.Past p) = fall.Past
 fall_of stop.Spent = fall.Spent
 
--- the end of a solve, by how the cold solve ends and how the warm start did
+-- how a solve ends: as the warm start did, where that ended; else as the cold solve, with why the warm start stopped
 abbrev pub solved_by : ExactSolveEnd → WarmResult → SolveEnd
 solved_by other (warm.Ended answer certificate basis pivots) =
     record { end = cold.Ended answer certificate basis pivots; route = Warm }
 solved_by other (warm.Stopped stop) = record { end = other; route = Fell (fall_of stop) }
 
--- the solve of a model, from the basis that is handed to it, if one is
+-- the solve of a model: cold without a basis; with one the warm start from it, and where that stops the cold solve
 unfoldable pub solve : Option ℕ → ℕ → Model → Option (List Status) → SolveEnd
 solve limit budget m None = record { end = cold_solve limit budget m; route = Cold }
 solve limit budget m (Some basis) = solved_by (cold_solve limit budget m) (warm_start limit budget m basis)

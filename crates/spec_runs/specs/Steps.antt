@@ -10,25 +10,26 @@ use Rattle.spec_simplex.specs.Start.{start_of}
 use Rattle.spec_simplex.specs.Step.{choice_run}
 use Rattle.spec_simplex.specs.Phases.{PrimalEnded, done_run, is_stuck, phase_one, phase_two_run}
 
--- a flip or a pivot, and no end
+-- the choice is a flip or a pivot, not an end
 abbrev pub IsChange : Choice ℚ → Type 0
 IsChange (End end) = ⊥
 IsChange (Flip j) = Unit {0}
 IsChange (Pivot p j theta to) = Unit {0}
 
--- the step from t is a flip or a pivot, and u is what it leaves
+-- the step that the primal method takes from t, at this limit, is a flip or a pivot, and u is the tableau after it
 pub record IsNext (limit : Option ℕ) (t u : Tableau) : Type 0 where
   pub choice : Choice ℚ
   pub chosen : choice_run limit t ≡ Ok choice
   pub changes : IsChange choice
   pub done : done_run limit t choice ≡ Ok u
 
--- k steps, one after the other, lead from t to u
+-- k flips and pivots of the primal method, one after the other, lead from t to u
 abbrev pub IsAfter : Option ℕ → ℕ → Tableau → Tableau → Type 0
 IsAfter limit zero t u = t ≡ u
 IsAfter limit (suc k) t u = (s : Tableau) × IsNext limit t s × IsAfter limit k s u
 
--- Phase two begins with t: phase one, if it was wanted, ended within the budget, and left no artificial that is not 0.
+-- Phase two of the form f begins with t. Phase one, if it was wanted, ended within the budget, and left no basic
+-- artificial that is not 0; t is its last tableau with artificials fixed at 0 and with the form's costs.
 pub record BeginsPhaseTwo (limit : Option ℕ) (budget : ℕ) (f : Form) (t : Tableau) : Type 0 where
   pub start : Tableau
   pub one : PrimalEnded

@@ -38,7 +38,7 @@ use Rattle.spec_simplex.specs.Dual.{DualEnded, dual_run}
 
 -- ---- one kind of stop as another
 
--- a result whose stop is taken as another kind of stop
+-- the same result, where a stop becomes one of another kind by `kind`
 abbrev pub stopped_as : {A D E : Type 0} → (D → E) → Result A D → Result A E
 stopped_as kind (Ok a) = Ok a
 stopped_as kind (Err e) = Err (kind e)
@@ -60,13 +60,15 @@ pub data WarmEnd : Type 0 where
   ByPrimal : PrimalEnded → WarmEnd
   ByDual : DualEnded → WarmEnd
 
--- the method that suits the fit of the tableau
+-- the run from a tableau by its fit, at a limit and within a budget: by the primal method where it is primal feasible,
+-- by the dual one where it can be made dual feasible; an unfit tableau stops it
 abbrev pub run_by : Option ℕ → ℕ → Tableau → Fit → Result WarmEnd (WarmStop ℚ)
 run_by limit budget t fit.Primal = stopped_as run_stop (run_from limit budget 0 t) >>= λ e. Ok (ByPrimal e)
 run_by limit budget t fit.Dual = stopped_as run_stop (dual_run limit budget t) >>= λ e. Ok (ByDual e)
 run_by limit budget t fit.Unfit = Err fall.Unfit
 
--- the run from a basis: its tableau, the fit of that, and the method that suits it
+-- the run from a basis, by the method that fits its tableau; or why it stops: there is no tableau, no method fits it,
+-- an operation is past the limit, or the budget is spent
 unfoldable pub warm_run : Option ℕ → ℕ → Form → List Status → Result WarmEnd (WarmStop ℚ)
 warm_run limit budget f basis =
     stopped_as start_stop (start_from limit f basis) >>= λ t.
@@ -75,11 +77,13 @@ warm_run limit budget f basis =
 
 -- ---- certificates of ends
 
--- the entries of a position's row in the rows' logicals, or their negatives
+-- the multipliers by which position p's row shows that no point is feasible: its entries in the rows' logicals, or
+-- their negatives where the way is down
 abbrev pub row_multipliers : Tableau → ℕ → Way → List ℚ
 row_multipliers t p way = made t.rows (λ i. directed way (entry_at t p (t.cols + i)))
 
--- the certificate of what the dual method ends with at a tableau
+-- the certificate of what the dual method ends with at a tableau: of an optimum its point and multipliers; else the
+-- multipliers by which the row of the position that is stuck shows that no point is feasible
 abbrev pub dual_certificate : Tableau → DualEnd → Certificate (List ℚ)
 dual_certificate t Optimal = certificate.Optimal (point t) (multipliers t)
 dual_certificate t (Infeasible p way) = certificate.Infeasible (row_multipliers t p way)
@@ -91,12 +95,12 @@ warm_certificate (ByDual e) = dual_certificate e.tableau e.end
 
 -- ---- the basis of an optimal end
 
--- the basis that the dual method leaves, if that is of an optimum
+-- the basis that the dual method leaves, if it ended with an optimum; else none
 abbrev pub dual_basis : Tableau → DualEnd → Option (List Status)
 dual_basis t Optimal = basis_at t primal.Optimal
 dual_basis t (Infeasible p way) = None
 
--- the basis that the run from a basis leaves, if that is of an optimum
+-- the basis that the run from a basis leaves, if it ended with an optimum; else none
 abbrev pub warm_basis : WarmEnd → Option (List Status)
 warm_basis (ByPrimal e) = basis_at e.tableau e.end
 warm_basis (ByDual e) = dual_basis e.tableau e.end
@@ -112,33 +116,37 @@ warm_pivots (ByDual e) = e.used
 abbrev pub WarmResult : Type 0
 WarmResult = Warm ℚ (List ℚ) (List Status)
 
--- A certificate of an end is always accepted, or an operation is refused: so the last case never comes.
+-- How a warm start ends, by what the checker says of its certificate: with the answer that it shows, or stopped past
+-- the limit. The checker never says no to a certificate of an end, so the last case never comes.
 abbrev pub checked : Certificate (List ℚ) → Option (List Status) → ℕ → Result (Known ℚ) (Refusal ℚ) → WarmResult
 checked certificate basis pivots (Ok answer) = outcome.Ended answer certificate basis pivots
 checked certificate basis pivots (Err (check.Past p)) = outcome.Stopped (fall.Past p)
 checked certificate basis pivots (Err (check.No n)) = outcome.Stopped fall.Spent
 
--- how a warm start ends with a certificate, by the check of it
+-- how a warm start with a certificate ends, by the check of it, as `checked` says: with the answer that it shows;
+-- stopped past the limit; or stopped as spent, should the checker say no
 abbrev pub answered : Option ℕ → Model → Certificate (List ℚ) → Option (List Status) → ℕ → WarmResult
 answered limit m certificate basis pivots = checked certificate basis pivots (check_run limit m certificate)
 
 -- ---- the whole
 
--- how a warm start ends after its run
+-- how a warm start ends after its run: by the check of the run's certificate, or stopped as the run was
 abbrev pub after_run : Option ℕ → Model → Result WarmEnd (WarmStop ℚ) → WarmResult
 after_run limit m (Ok e) = answered limit m (warm_certificate e) (warm_basis e) (warm_pivots e)
 after_run limit m (Err s) = outcome.Stopped s
 
--- bounds that clash have no form, and are their own certificate
+-- How a warm start ends by the model's form: by the run from the basis. Where bounds clash, it ends with the clash as
+-- the certificate; where the form is past the limit, it stops so.
 abbrev pub after_form : Option ℕ → ℕ → Model → List Status → Result Form (FormFault ℚ) → WarmResult
 after_form limit budget m basis (Ok f) = after_run limit m (warm_run limit budget f basis)
 after_form limit budget m basis (Err (fault.Clash j)) = answered limit m (certificate.Clash j) None 0
 after_form limit budget m basis (Err (fault.Past p)) = outcome.Stopped (fall.Past p)
 
--- the warm start of a model from a basis
+-- How the warm start of a model from a basis ends, at a limit and within a budget: with an answer and a certificate
+-- that the checker accepts, or stopped, without an answer. Nothing is solved cold here.
 unfoldable pub warm : Option ℕ → ℕ → Model → List Status → WarmResult
 warm limit budget m basis = after_form limit budget m basis (form_of limit m)
 
--- the basis is one of the model's form, where it has one
+-- if the model has a form at this limit, the basis is one of that form
 abbrev pub IsBasisFor : Option ℕ → Model → List Status → Type 0
 IsBasisFor limit m basis = (f : Form) → form_of limit m ≡ Ok f → IsBasisOf f basis

@@ -59,7 +59,8 @@ pub fn ends_are_accepted()
         form_of limit m ≡ Err (fault.Clash j) → IsAccepted limit m (certificate.Clash j) }
 {}
 
-/// What a cold solve ends with is true, and the checker accepts its certificate. It is spent only where the phases are.
+/// Where a cold solve ends with an answer, this is true, and the checker at the limit accepts the certificate for it.
+/// It is spent only where the phases are.
 pub fn cold_ends_true()
     ensures ended { (limit : Option ℕ) (budget : ℕ) (m : Model) (answer : Known ℚ)
         (cert : Certificate (List ℚ)) (basis : Option (List Status)) (pivots : ℕ) →
@@ -130,8 +131,8 @@ pub fn cold_limits_only_refuse()
     ensures exact { (budget : ℕ) (m : Model) (p : Past ℚ) → ¬ (cold None budget m ≡ outcome.Past p) }
 {}
 
-/// Each model is decided: it has an optimal value, or no feasible point, or points that get better without limit, and
-/// the cold solve without a limit says which.
+/// Each model is decided: it has an optimal value, or no feasible point, or points that get better without limit. The
+/// cold solve without a limit says which, within a budget of twice 3 to the power of columns plus twice the rows.
 pub fn every_model_is_decided()
     ensures { (budget : ℕ) (m : Model) → 2 * 3 ^ (width m + 2 * height m) ≤ budget → IsAnswered budget m }
 {}

@@ -48,7 +48,8 @@ ghost use Rattle.spec_simplex.specs.Dual.{Reached, flips_run, dual_choice_run, d
 ghost use Rattle.spec_runs.specs.Based.{IsBased, IsReady, BeginsFrom, IsDependent, IsDualStep, IsDualMeant};
 ghost use Rattle.spec_runs.specs.Warm.{WarmEnd, warm_run, warm_certificate, warm_basis, warm, IsBasisFor};
 
-/// The tableau of a basis is one of the form's equations, costs and bounds.
+/// The tableau that is made of a basis of a proper form, which has no more costs than columns, is one of the form's
+/// equations, costs and bounds, with artificials fixed at 0.
 pub fn bases_begin_tableaus()
     ensures { (limit : Option ℕ) (f : Form) (basis : List Status) (t : Tableau) →
         IsProper f → IsBasisOf f basis → length f.cost ≤ f.cols + f.rows + f.rows →
@@ -61,9 +62,9 @@ pub fn singular_bases_depend()
         (j : ℕ) × (x : ℕ → ℚ) × IsDependent f basis j x }
 {}
 
-/// What the fit of a tableau says of its values or reduced costs holds, so the method that it names may go on. Where it
-/// is primal, each value is within its bounds. Where it is dual, the reduced costs have, after its flips, the signs
-/// that their statuses want.
+/// What the fit of a basis's tableau says holds, so the method that it names may go on. Where it is primal, and no
+/// lower bound is above its upper one, each value is within its bounds. Where it is dual, the reduced costs of columns
+/// that are not fixed have, after its flips, the signs that their statuses want.
 pub fn fits_mean_methods()
     ensures primal { (limit : Option ℕ) (m n : ℕ) (f : Matrix) (cost : ℕ → ℚ) (b : Bounds) (t : Tableau) →
         IsBased m n f cost b t → IsOrdered (n + m + m) b →
@@ -74,8 +75,8 @@ pub fn fits_mean_methods()
         flips_run limit budget t ≡ Ok r → IsReady m n f cost b r.tableau }
 {}
 
-/// A choice of the dual run means what the dual ratio test says, and its pivot is a dual step, which keeps the signs of
-/// the reduced costs.
+/// At a dual feasible tableau of a basis, a choice of the dual run means what the dual ratio test says. Where no
+/// operation is refused, its pivot is a dual step, and the tableau after it is dual feasible again.
 pub fn dual_choices_mean_steps()
     ensures choice { (limit : Option ℕ) (m n : ℕ) (f : Matrix)
         (cost : ℕ → ℚ) (b : Bounds) (t : Tableau) (choice : DualChoice) →
@@ -109,8 +110,9 @@ pub fn ends_leave_bases()
         form_of limit m ≡ Ok f → phases_run limit budget f ≡ Ok e → basis_of e ≡ Some left → IsBasisOf f left }
 {}
 
-/// A warm start ends with a true answer, and the checker accepts its certificate. Where it stops for another reason
-/// than a refused operation, the run from the basis stopped for that reason.
+/// Where a warm start from a basis of the model's form ends with an answer, this is true, and the checker accepts the
+/// certificate. Where it stops for another reason than a refused operation, the run from the basis stopped for that
+/// reason.
 pub fn warm_ends_true()
     ensures ended { (limit : Option ℕ) (budget : ℕ) (m : Model) (basis : List Status)
         (answer : Known ℚ) (cert : Certificate (List ℚ)) (left : Option (List Status)) (pivots : ℕ) →
@@ -121,7 +123,8 @@ pub fn warm_ends_true()
         (f : Form) × (form_of limit m ≡ Ok f) × (warm_run limit budget f basis ≡ Err s) }
 {}
 
-/// At a limit a warm start is the one without a limit, or an operation is refused. Without a limit none is.
+/// From a basis of the model's form a warm start at a limit is the one without a limit, or an operation is refused.
+/// Without a limit none is.
 pub fn warm_limits_only_refuse()
     ensures same { (limit : Option ℕ) (budget : ℕ) (m : Model) (basis : List Status) → IsBasisFor limit m basis →
         (warm limit budget m basis ≡ warm None budget m basis)
