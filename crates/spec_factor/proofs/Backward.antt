@@ -1,8 +1,9 @@
 -- What btran gives, without a limit, is adjoint to what ftran gives.
 --
--- `backward_one_same`: btran by one pair gives the same items, where the lists are the same at all m places.
--- `adjoint`: the sum of products of btran's result with v is that of the list c with ftran's result of v.
--- `backward_same`: btran gives the same items, where the lists are the same at all m places.
+-- `backward_one_same`: where two lists are the same at all m places, so are their lists after btran by one pair.
+-- `adjoint`: over the m places, the sum of btran of c times v is the sum of c times ftran of v.
+-- `backward_same`: where two lists are the same at all m places, so are their lists after btran by pairs of these
+--   places.
 use Rattle.std.proofs.Common.{◌≡◌, ◌≢◌, ℕ, ◌<◌, List, [], ◌∷◌, cond, nat_eq}
 use Rattle.std.proofs.Common.{refl, sym, ap, ap₂, ◌∙◌, subst, eq-eqb, ne_eqb}
 use Rattle.std.specs.Prelude.{All}
@@ -17,11 +18,12 @@ use Rattle.spec_factor.specs.Factors.{Pair, pair_at}
 use Rattle.spec_factor.specs.Basis.{forward_one, forward, IsPair}
 use Rattle.spec_factor.proofs.Forward.{one_at_place, one_off_place}
 
--- x, and 0 at place p
+-- `off p i x` is x where place i is not p, and 0 where it is
 abbrev pub off : ℕ → ℕ → ℚ → ℚ
 off p i x = cond (nat_eq i p) 0ℚ x
 
--- what the other places take off the item of the pair's own
+-- what one pair of btran takes off the item at the pair's place: the sum over the other places of the item there times
+-- the pair's entry there
 unfoldable pub taken : ℕ → Pair → (ℕ → ℚ) → ℚ
 taken m e c = sum_below m (λ i. off e.place i (c i *ℚ pair_at e i))
 

@@ -1,8 +1,9 @@
 -- The product of elementary matrices keeps combinations, depends on the m places alone, and can be undone.
 --
 -- `one_at_place`: an elementary matrix divides the item at its place by the pair's entry there.
--- `one_off_place`: an elementary matrix takes from each other item its entry times the quotient at the place.
--- `forward_same`: ftran gives the same items, where the lists are the same at all m places.
+-- `one_off_place`: an elementary matrix takes from an item i off the pair's place the pair's entry i times the quotient
+--   at the pair's place.
+-- `forward_same`: where two lists are the same at all m places, so are their lists after ftran by pairs of such places.
 -- `forward-append`: ftran by one list of pairs after another is ftran by the two lists in turn.
 -- `forward_combines`: ftran of a combination of columns is the same combination of ftran of the columns.
 -- `forward_undone`: ftran of an undone list gives the list at all m places.

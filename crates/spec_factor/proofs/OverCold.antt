@@ -24,7 +24,7 @@ use Rattle.spec_factor.specs.Same.{HasCosts}
 use Rattle.spec_factor.proofs.OverLimits.{over_agrees}
 use Rattle.spec_factor.proofs.OverPhases.{over_is}
 
--- the form of a model has its costs
+-- the form of a model has a cost for each column, and its logicals cost 0
 form_costs : (limit : Option ℕ) (m : Model) (f : Form) → form_of limit m ≡ Ok f → HasCosts f
 form_costs limit m f e =
     let o = form_is limit m f e in

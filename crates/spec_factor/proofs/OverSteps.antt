@@ -1,6 +1,6 @@
 -- A flip and a pivot over factors leave a state of the tableau that the same step leaves.
 --
--- `there_is`: a run that agrees with itself where nothing is refused has a result.
+-- `there_is`: a run that is never refused, as one without a limit, has a result.
 -- `places_of`: where pairs stand for the basic columns of a form's tableau, these stand in their places.
 use Rattle.std.proofs.Common.{◌≡◌, ◌≢◌, ℕ, suc, ◌+◌, ◌<◌, ◌≤◌, List, [], length, get_or, set, map, Option, Some}
 use Rattle.std.proofs.Common.{None, Ok, Err, cond, refl, sym, ap, ap₂, ◌∙◌, subst, subst₂, eq-eqb, ne_eqb}

@@ -62,7 +62,8 @@ pub record SameColumn (t u : Tableau) (j : ℕ) : Type 0 where
   pub lower : t.lower ≡ u.lower
   pub upper : t.upper ≡ u.upper
 
--- where two tableaus have the same entering column, their ratio tests give the same best
+-- where two tableaus have the same entries in the entering column, the same values and the same bounds, their ratio
+-- tests give the same best
 best_same : (limit : Option ℕ) (t u : Tableau) (e : Entering) → SameColumn t u e.col →
     best_run limit t e ≡ best_run limit u e
 best_same limit t u e s =

@@ -1,8 +1,7 @@
 -- Where pairs stand for a basis, ftran solves for its columns and btran for its rows; and a column can be replaced.
 --
 -- `pair_keeps`: an elementary matrix leaves a list as it is that is 0 at its place.
--- `replaced_basic`: after a replacement the new column is the basic one at its place, and each other place keeps its
---   column.
+-- `replaced_basic`: after a replacement the list of basic columns is the old one with the new column at its place.
 use Rattle.std.proofs.Common.{◌≡◌, ◌≢◌, ℕ, ◌<◌, List, [], ◌∷◌, length, set, Option}
 use Rattle.std.proofs.Common.{Ok, refl, sym, ap, ap₂, ◌∙◌, subst, eq-eqb, ne_eqb}
 use Rattle.std.specs.Prelude.{All}
@@ -79,7 +78,7 @@ module _ (m : ℕ) (pairs : List Pair) (basis : Matrix) (stands : StandsFor m pa
 
 -- ---- one more pair
 
--- the pair of a column makes of the column the unit vector of the pair's place
+-- the pair of a column makes of the column, where that is not 0 at the pair's place, the unit vector of this place
 pair_unit : (e : Pair) (v : ℕ → ℚ) (i : ℕ) → v e.place ≢ 0ℚ → pair_at e e.place ≡ v e.place → pair_at e i ≡ v i →
     forward_one e v i ≡ delta e.place i
 pair_unit e v i n own here =

@@ -23,6 +23,8 @@ use Rattle.spec_factor.proofs.Selection.{W, W_is, SelectionRuns, selection_ok, S
 use Rattle.spec_factor.proofs.OverSteps.{flip_goes, pivot_goes}
 use Rattle.spec_factor.proofs.Refactor.{refactored_goes}
 
+-- without a limit a state that goes with a tableau may have its factors taken anew, where that is due, and still goes
+-- with the tableau
 pub goes_on : (f : Form) (t : Tableau) (s : Revised) → t.rows ≡ f.rows → t.cols ≡ f.cols → GoesWith f t s →
     (v : Revised) × (refreshed_run None f s ≡ Ok v) × GoesWith f t v
 goes_on f t s rows cols g = by (nat_eq s.replaced replacements)

@@ -12,14 +12,16 @@ use Rattle.spec_factor.specs.Factors.{Pair}
 use Rattle.spec_factor.specs.Basis.{StandsFor, basis_of}
 use Rattle.spec_factor.specs.Revised.{Revised, factor_column}
 
--- two choices are the same, where a pivot is named by its columns
+-- choice d at tableau u does what choice c does at tableau t: the same end, the same flip, or a pivot with the same two
+-- columns, move and bound, whose position may be another
 abbrev pub SameChoice : Tableau → Tableau → Choice ℚ → Choice ℚ → Type 0
 SameChoice t u (End end) d = d ≡ End end
 SameChoice t u (Flip j) d = d ≡ Flip j
 SameChoice t u (Pivot p j theta to) d =
     (q : ℕ) × (q < u.rows) × (basic_at t p ≡ basic_at u q) × (d ≡ Pivot q j theta to)
 
--- the basic columns stand in these places, and the pairs stand for them, an artificial by its row's logical
+-- the basic columns of t stand in the places of `basic`, each in one, and the pairs stand for their columns of the
+-- form's equations, with an artificial as its row's logical
 pub record Places (f : Form) (t : Tableau) (basic : List ℕ) (pairs : List Pair) : Type 0 where
   pub all : length basic ≡ f.rows
   pub in_range : (p : ℕ) → p < f.rows → get_or basic p 0 < all_columns t
@@ -31,11 +33,13 @@ pub record Places (f : Form) (t : Tableau) (basic : List ℕ) (pairs : List Pair
 abbrev pub bare_with : Tableau → List ℕ → Tableau
 bare_with t basic = record t { entries = []; basic = basic; reduced = [] }
 
--- a state over factors with the values, statuses and bounds of the columns of t
+-- the state over factors with the values, statuses and bounds of the columns of t, these basic columns by place, these
+-- pairs and this count of replacements
 abbrev pub state : Tableau → List ℕ → List Pair → ℕ → Revised
 state t basic pairs replaced = record { bare = bare_with t basic; pairs = pairs; replaced = replaced }
 
--- the state is the tableau's but for positions, rows and reduced costs
+-- the state s over factors goes with the tableau t: it has the values, statuses and bounds of t, and factors of the
+-- basic columns of t, whose places may be others than the positions in t
 pub record GoesWith (f : Form) (t : Tableau) (s : Revised) : Type 0 where
   pub basic : List ℕ
   pub pairs : List Pair
@@ -43,7 +47,7 @@ pub record GoesWith (f : Form) (t : Tableau) (s : Revised) : Type 0 where
   pub same : s ≡ state t basic pairs replaced
   pub places : Places f t basic pairs
 
--- a form whose logicals cost nothing, as that of each model
+-- a form with a cost for each column, whose logicals cost 0, as that of each model
 pub record HasCosts (f : Form) : Type 0 where
   pub all : length f.cost ≡ f.cols + f.rows
   pub free : (i : ℕ) → i < f.rows → cost_at f.cost (f.cols + i) ≡ 0ℚ

@@ -42,8 +42,8 @@ pub use revised::{
 };
 pub use stop::NoFactors;
 
-/// Where pairs stand for a basis, ftran gives the one list z with basis * z = v, and btran the one list y with
-/// y * basis = c.
+/// Where pairs stand for a basis of m places and no operation is refused, ftran of a list v of m numbers gives the one
+/// list z with basis * z = v. So btran of a list c of m numbers gives the one list y with y * basis = c.
 pub fn solves_are_exact()
     ensures ftran { (limit : Option ℕ) (m : ℕ) (pairs : List Pair) (basis : Matrix) (v z : List ℚ) →
         StandsFor m pairs basis → length v ≡ m → ftran_run limit m pairs v ≡ Ok z → SolvesColumns m basis v z }
@@ -51,8 +51,8 @@ pub fn solves_are_exact()
         StandsFor m pairs basis → length c ≡ m → btran_run limit m pairs c ≡ Ok y → SolvesRows m basis c y }
 {}
 
-/// Factoring the basic columns of a basis gives factors of them, or finds that they are dependent, and factors of
-/// dependent columns there are none.
+/// Factoring the basic columns of a basis, as many as there are rows, gives factors of them, or finds that they are
+/// dependent, or is refused an operation. Of dependent columns there are no factors.
 pub fn factors_stand_for_their_basis()
     ensures stands { (limit : Option ℕ) (f : Form) (basis : List Status) (s : Factors) →
         basics_below basis (f.cols + f.rows) ≡ f.rows → factor_run limit f basis ≡ Ok s → AreFactors f basis s }
@@ -62,8 +62,9 @@ pub fn factors_stand_for_their_basis()
         ¬ (AreDependent f basis) }
 {}
 
-/// Where the column's solution is not 0 at the place, the pairs that are left stand for the basis with the column
-/// there, and the other places keep their columns.
+/// Where pairs stand for a basis, and column k is put into place p without a refusal, the new pairs stand for the basis
+/// with that column there and its old ones elsewhere. The solution for the new column may not be 0 at place p. The list
+/// of basic columns is the old one with k as its item p.
 pub fn replacing_keeps_factors()
     ensures stands { (limit : Option ℕ) (m : ℕ) (basis : Matrix) (s u : Factors) (p k : ℕ) (column : List ℚ) →
         StandsFor m s.pairs basis → p < m → length column ≡ m →

@@ -37,8 +37,8 @@ ghost use Rattle.spec_factor.specs.Over.{over_run, answer_in, over_factors};
 ghost use Rattle.spec_factor.specs.Same.{SameChoice, GoesWith};
 
 /// Two tableaus of the same rows, costs and bounds with the same statuses have the same values, reduced costs and rows
-/// by their basic columns. The same step is chosen from both, named by its columns, and after it they have the same
-/// statuses.
+/// by their basic columns. Where no operation is refused, the same step is chosen from both, named by its columns, and
+/// after it they have the same statuses.
 pub fn one_basis_one_step()
     ensures tableau { (m n : ℕ) (f : Matrix) (cost : ℕ → ℚ) (b : Bounds) (t u : Tableau) →
         IsTableauOf m n f cost b t → IsTableauOf m n f cost b u → SameStatuses (n + m + m) (table_of t) (table_of u) →
@@ -54,8 +54,9 @@ pub fn one_basis_one_step()
         SameStatuses (n + m + m) (table_of v) (table_of w) }
 {}
 
-/// A state over factors that goes with a tableau chooses the same step, named by its columns. Without a limit the step
-/// leaves a state that goes with the tableau that it leaves, and so does taking factors anew.
+/// Where neither choice is refused, a state over factors that goes with a tableau takes the same one, named by columns.
+/// Without a limit, and with values within their bounds, the step from the state leaves one that goes with the tableau
+/// that the step leaves. Without a limit, a state whose factors are taken anew goes with the same tableau as before.
 pub fn factors_step_as_tableaus()
     ensures choice { (limit other : Option ℕ) (f : Form) (starts : List (RowStart ℚ)) (costs : List ℚ) (b : Bounds)
         (t : Tableau) (s : Revised) (c : Choice ℚ) (selection : Selection) →
@@ -83,8 +84,9 @@ pub fn factors_step_as_tableaus()
         (v : Revised) × (refreshed_run None f s ≡ Ok v) × GoesWith f t v }
 {}
 
-/// Without a limit the cold run over factors ends as the one on whole tableaus: with the same kind, certificate, basis
-/// and count of pivots and flips, or spent. At a limit it is the same, or an operation is refused.
+/// Without a limit the cold run over factors of a model's form ends as the one on whole tableaus: with the same kind,
+/// certificate, basis and count of pivots and flips, or spent. At a limit the run over factors ends as without one, or
+/// an operation is refused.
 pub fn factors_end_as_tableaus()
     ensures ends { (limit : Option ℕ) (budget : ℕ) (m : Model) (f : Form) → form_of limit m ≡ Ok f →
         over_run None budget f ≡ answer_in (phases_run None budget f) }
@@ -93,8 +95,8 @@ pub fn factors_end_as_tableaus()
         ((p : Past ℚ) × (over_run limit budget f ≡ Err (stop.Past p))) }
 {}
 
-/// With the check of its certificate the cold run over factors is the cold solve without a limit, or gives up with an
-/// operation that is refused.
+/// With the check of its certificate the cold run over factors of a model's form ends as the cold solve without a
+/// limit, or gives up with an operation that is refused.
 pub fn factors_solve_as_without_a_limit()
     ensures { (limit : Option ℕ) (budget : ℕ) (m : Model) (f : Form) → form_of limit m ≡ Ok f →
         (over_factors limit budget m f ≡ cold None budget m) ⊎
