@@ -41,20 +41,26 @@ module _ (m : Model) where
       let sound = run_sound None m cert known h.0 h.1 in
       subst (Holds m) (sym sound.1) (checks_hold m cert sound.0)
 
+  -- an exact answer of a model holds of the model
   pub answer_true : (a : RationalAnswer) → IsExactAnswer m a → Holds m a.known
   answer_true a h = shown_true a.known a.certificate h.0
 
+  -- two exact answers of one model name the same known
   pub answers_agree : (a b : RationalAnswer) → IsExactAnswer m a → IsExactAnswer m b → a.known ≡ b.known
   answers_agree a b h k = one_truth m a.known b.known (answer_true a h) (answer_true b k)
 
   module _ (a : RationalAnswer) (h : IsExactAnswer m a) (basis : List Status) where
+    -- the answer is an optimum whose certificate's point and multipliers stand at the basis, and the value at the point
+    -- is the optimal one
     abbrev pub IsOptimum : Type 0
     IsOptimum = (x : List ℚ) × (y : List ℚ) × (a.certificate ≡ Optimal x y) × StandsAt m basis x y
         × (a.known ≡ knows.Optimal (value_of m x)) × IsOptimal m (value_of m x)
 
+    -- the answer is what its certificate shows of the model
     is_shown : (c : Certificate (List ℚ)) → a.certificate ≡ c → a.known ≡ shown m c
     is_shown c e = (run_sound None m a.certificate a.known h.0.0 h.0.1).1 ∙ ap (shown m) e
 
+    -- where the basis of an exact answer suits its certificate, the answer is optimal, and the basis has its point
     by_certificate : (c : Certificate (List ℚ)) → a.certificate ≡ c → IsOfBasis m basis c → IsOptimum
     by_certificate (Optimal x y) e stands =
         let is : a.known ≡ knows.Optimal (value_of m x) = is_shown (Optimal x y) e in
@@ -63,6 +69,7 @@ module _ (m : Model) where
     by_certificate (Clash j) e stands = absurd stands
     by_certificate (Unbounded x r) e stands = absurd stands
 
+    -- where an exact answer has a basis, the answer is optimal, and the basis has its point
     pub at_optimum : a.basis ≡ Some basis → IsOptimum
     at_optimum is =
         let of : IsBasisOfAnswer m a.certificate basis =
@@ -95,7 +102,7 @@ pub narrow_shown : (m : Model) (known : Known ℚ) (cert : Certificate (List ℚ
 narrow_shown m known cert fits narrow accepted =
     (fits, check_without (Some number_limit) m cert known accepted, narrow_lines cert narrow)
 
--- a solve at 127 bits as an exact one, of which the basis is left out
+-- an end of a solve at 127 bits as one of an exact solve: the answer and certificate without the basis, or none
 abbrev pub exact_of : ExactSolveEnd → RationalEnd
 exact_of (Ended known cert basis pivots) =
     Answered (record { known = known; certificate = cert; basis = None; origin = Cold })
@@ -115,10 +122,12 @@ solved_exactly m budget starting solved is = by solved.end refl
 
 module _ (m : Model) (budget : ℕ) (starting : Option (List Status)) (known : Known ℚ) (cert : Certificate (List ℚ))
     (basis : Option (List Status)) (pivots : ℕ) where
+  -- an end with this answer does not give up
   not_given_up : (end : ExactSolveEnd) → EndsSo m budget known cert basis pivots end → ¬ (GivesUp end)
   not_given_up end (c, b, n, is) up = subst GivesUp is up
 
-  -- where the cold solve finds something of a usual model, a solve may not give up
+  -- where the cold solve at the limit knows something of a usual model, an exact solve within the budget answers the
+  -- same
   pub found_exactly : (end : RationalEnd) → IsUsual m → cold (Some number_limit) budget m ≡ Ended known cert basis pivots →
       IsExactEnd m budget starting end → (a : RationalAnswer) × (end ≡ Answered a) × (a.known ≡ known)
   found_exactly (Answered a) usual found h = (

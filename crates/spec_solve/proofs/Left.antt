@@ -27,6 +27,7 @@ use Rattle.spec_runs.proofs.TrueEnds.{run_left, phases_left}
 use Rattle.spec_solve.specs.Answers.{ColdFits, WarmFits, IsSolved}
 
 module _ (known : Known ℚ) (c : Certificate (List ℚ)) (left : List Status) (pivots : ℕ) where
+  -- where the check of a certificate makes a cold solve's end with a basis, it is the basis that was given to the check
   cold_checked : (d : Certificate (List ℚ)) (basis : Option (List Status)) (n : ℕ)
       (r : Result (Known ℚ) (CheckStop ℚ)) → checked d basis n r ≡ Ended known c (Some left) pivots →
       basis ≡ Some left
@@ -34,6 +35,7 @@ module _ (known : Known ℚ) (c : Certificate (List ℚ)) (left : List Status) (
   cold_checked d basis n (Err (check.Past p)) e = cc
   cold_checked d basis n (Err (check.No k)) e = cc
 
+  -- where the check of a certificate makes a warm start's end with a basis, it is the basis that was given to the check
   warm_checked : (d : Certificate (List ℚ)) (basis : Option (List Status)) (n : ℕ)
       (r : Result (Known ℚ) (CheckStop ℚ)) → warms.checked d basis n r ≡ outcome.Ended known c (Some left) pivots →
       basis ≡ Some left
@@ -41,6 +43,7 @@ module _ (known : Known ℚ) (c : Certificate (List ℚ)) (left : List Status) (
   warm_checked d basis n (Err (check.Past p)) e = cc
   warm_checked d basis n (Err (check.No k)) e = cc
 
+  -- the basis that a cold solve of a model with a form leaves is a basis of that form
   pub cold_left : (limit : Option ℕ) (budget : ℕ) (m : Model) (f : Form) → form_of limit m ≡ Ok f →
       cold limit budget m ≡ Ended known c (Some left) pivots → IsBasisOf f left
   unfolding cold
@@ -55,6 +58,7 @@ module _ (known : Known ℚ) (c : Certificate (List ℚ)) (left : List Status) (
       by (Err (stop.Past v)) q z = cc
       by (Err stop.Spent) q z = cc
 
+  -- the basis that a warm start from a basis of a model's form leaves is a basis of that form
   pub warm_left : (limit : Option ℕ) (budget : ℕ) (m : Model) (basis : List Status) (f : Form) → form_of limit m ≡ Ok f →
       IsBasisOf f basis → warm limit budget m basis ≡ outcome.Ended known c (Some left) pivots → IsBasisOf f left
   unfolding warm
@@ -70,10 +74,12 @@ module _ (known : Known ℚ) (c : Certificate (List ℚ)) (left : List Status) (
 
   module _ (m : Model) (budget : ℕ) (f : Form) (p : form_of (Some number_limit) m ≡ Ok f) (solved : SolveEnd)
       (is : solved.end ≡ Ended known c (Some left) pivots) where
+    -- the basis left by an end that fits the cold solve is a basis of the model's form
     from_cold : ColdFits m budget solved.end → IsBasisOf f left
     from_cold h =
         cold_left None budget m f (form_without (Some number_limit) m f p) (subst (ColdFits m budget) is h)
 
+    -- the basis left by an end that fits a warm start is a basis of the model's form
     from_basis : (basis : List Status) → IsBasisOf f basis → (r : WarmResult) →
         warm (Some number_limit) budget m basis ≡ r → WarmFits m budget r solved → IsBasisOf f left
     from_basis basis fits (outcome.Ended k d other n) q h =

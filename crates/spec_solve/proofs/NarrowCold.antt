@@ -96,7 +96,7 @@ fixed_narrow n zero bounds h = h
 fixed_narrow n (suc m) bounds h =
     All-set NarrowBound (fixed_at_zero n m bounds) (n + m) (Some 0ℚ) zero_narrow (fixed_narrow n m bounds h)
 
--- phase two begins with numbers of at most 127 bits, where those of the form and of the tableau before have at most 127
+-- phase two begins with numbers of at most 127 bits, where the form and the tableau before have such numbers
 two_narrow : (f : Form) (t u : Tableau) → phase_two_run (Some number_limit) f t ≡ Ok u → IsNarrowForm f → AreNarrow t →
     AreNarrow u
 unfolding phase_two_run
@@ -112,6 +112,7 @@ two_narrow f t u h k n =
       upper = fixed_narrow (form_columns t) t.rows t.upper n.upper;
     })
 
+-- the tableau with which both phases end has numbers of at most 127 bits
 abbrev NarrowEnd : PhasesEnd → Type 0
 NarrowEnd (Infeasible t used) = AreNarrow t
 NarrowEnd (Finished e) = AreNarrow e.tableau
@@ -200,9 +201,12 @@ certificate_narrow (Finished e) n = end_narrow e.tableau e.end n
 -- ---- the whole solve
 
 module _ (known : Known ℚ) (cert : Certificate (List ℚ)) (basis : Option (List Status)) (pivots : ℕ) where
+  -- the end has just this answer, certificate, basis and count of pivots
   abbrev IsThisEnd : ExactSolveEnd → Type 0
   IsThisEnd o = o ≡ outcome.Ended known cert basis pivots
 
+  -- where the check of a certificate of numbers of at most 127 bits makes this end, the end's certificate has such
+  -- numbers
   pub by_check : (c : Certificate (List ℚ)) (b : Option (List Status)) (n : ℕ) (run : Result (Known ℚ) (CheckStop ℚ)) →
       IsThisEnd (checked c b n run) → IsNarrowCertificate c → IsNarrowCertificate cert
   by_check c b n (Ok a) e h =
@@ -214,6 +218,8 @@ module _ (known : Known ℚ) (cert : Certificate (List ℚ)) (basis : Option (Li
   by_check c b n (Err (check.No k)) e h =
       let z : ◌≡◌ {A = ExactSolveEnd} outcome.Spent (outcome.Ended known cert basis pivots) = e in cc
 
+  -- where what comes after both phases is this end, and their end has numbers of at most 127 bits, so has the
+  -- certificate
   by_phases : (m : Model) (o : Result PhasesEnd (Spending ℚ)) → IsThisEnd (after_phases (Some number_limit) m o) →
       ((p : PhasesEnd) → o ≡ Ok p → NarrowEnd p) → IsNarrowCertificate cert
   by_phases m (Ok p) e h =
@@ -224,6 +230,8 @@ module _ (known : Known ℚ) (cert : Certificate (List ℚ)) (basis : Option (Li
   by_phases m (Err stop.Spent) e h =
       let z : ◌≡◌ {A = ExactSolveEnd} outcome.Spent (outcome.Ended known cert basis pivots) = e in cc
 
+  -- where what comes after a model's form is this end, and the form has numbers of at most 127 bits, so has the
+  -- certificate
   by_form : (budget : ℕ) (m : Model) (o : Result Form (FormFault ℚ)) →
       IsThisEnd (after_form (Some number_limit) budget m o) → ((f : Form) → o ≡ Ok f → IsNarrowForm f) →
       IsNarrowCertificate cert
@@ -234,6 +242,8 @@ module _ (known : Known ℚ) (cert : Certificate (List ℚ)) (basis : Option (Li
   by_form budget m (Err (fault.Past p)) e h =
       let z : ◌≡◌ {A = ExactSolveEnd} (outcome.Past p) (outcome.Ended known cert basis pivots) = e in cc
 
+  -- the certificate with which a cold solve of a kept model ends, at the program's limit, has numbers of at most 127
+  -- bits
   pub cold_narrow : (budget : ℕ) (m : Model) → IsModel m →
       cold (Some number_limit) budget m ≡ outcome.Ended known cert basis pivots → IsNarrowCertificate cert
   unfolding cold

@@ -122,6 +122,7 @@ signed_narrow starts t k v n = by (is_artificial t k)
 
 -- ---- what a step sees
 
+-- the multipliers and the tableau that a step over factors sees have numbers of at most 127 bits
 pub record NarrowSelection (s : Selection) : Type 0 where
   pub multipliers : All IsNarrow s.multipliers
   pub tableau : AreNarrow s.tableau
@@ -142,9 +143,11 @@ seen_narrow starts t j z n h = record {
     by false p = zero_narrow
 
 module _ (f : Form) (starts : List (RowStart ℚ)) (form : IsNarrowForm f) where
+  -- the bare tableau of a state over factors has numbers of at most 127 bits
   abbrev NarrowState : Revised → Type 0
   NarrowState s = AreNarrow s.bare
 
+  -- where a state and multipliers have numbers of at most 127 bits, so has what a step with an entering column sees
   with_narrow : (s : Revised) (y : List ℚ) (e : Option Entering) (selection : Selection) →
       selection_with (Some number_limit) f starts s y e ≡ Ok selection → NarrowState s → All IsNarrow y →
       NarrowSelection selection
@@ -163,6 +166,7 @@ module _ (f : Form) (starts : List (RowStart ℚ)) (form : IsNarrowForm f) where
             (column_narrow f e.col form));
       })
 
+  -- where costs and a state have numbers of at most 127 bits, so has what a step sees
   selection_narrow : (costs : List ℚ) (s : Revised) (selection : Selection) →
       selection_run (Some number_limit) f starts costs s ≡ Ok selection → All IsNarrow costs → NarrowState s →
       NarrowSelection selection
@@ -177,6 +181,7 @@ module _ (f : Form) (starts : List (RowStart ℚ)) (form : IsNarrowForm f) where
 
   -- ---- the flip and the pivot
 
+  -- a tableau with numbers of at most 127 bits, made bare, has such numbers
   bare_narrow : (t : Tableau) → AreNarrow t → AreNarrow (bare_of t)
   bare_narrow t n =
       record {
@@ -188,6 +193,7 @@ module _ (f : Form) (starts : List (RowStart ℚ)) (form : IsNarrowForm f) where
             n.upper;
       }
 
+  -- a flip over factors of a tableau with numbers of at most 127 bits leaves such numbers
   flip_over_narrow : (s u : Revised) (t : Tableau) (j : ℕ) → flip_over_run (Some number_limit) s t j ≡ Ok u →
       AreNarrow t → NarrowState u
   unfolding flip_over_run
@@ -196,6 +202,7 @@ module _ (f : Form) (starts : List (RowStart ℚ)) (form : IsNarrowForm f) where
       let z : ◌≡◌ {A = Revised} (record s { bare = bare_of o.0 }) u = cc in
       subst NarrowState z (bare_narrow o.0 (flip_narrow t o.0 j o.1 n))
 
+  -- the exchange of a pivot over factors leaves numbers of at most 127 bits, where state and tableau have such
   exchange_narrow : (s u : Revised) (t : Tableau) (p j : ℕ) (theta : ℚ) (to : Status) →
       exchange_run (Some number_limit) f s t p j theta to ≡ Ok u → NarrowState s → AreNarrow t → NarrowState u
   unfolding exchange_run
@@ -216,6 +223,7 @@ module _ (f : Form) (starts : List (RowStart ℚ)) (form : IsNarrowForm f) where
         upper = n.upper;
       }))
 
+  -- factors taken anew of a tableau with numbers of at most 127 bits leave such numbers
   refactor_narrow : (t : Tableau) (u : Revised) → refactor_run (Some number_limit) f t ≡ Ok u → AreNarrow t →
       NarrowState u
   unfolding refactor_run
@@ -226,6 +234,7 @@ module _ (f : Form) (starts : List (RowStart ℚ)) (form : IsNarrowForm f) where
       subst NarrowState z
       (record { entries = n.entries; value = n.value; reduced = n.reduced; lower = n.lower; upper = n.upper })
 
+  -- a state with numbers of at most 127 bits has such numbers after its factors were taken anew, if it was time
   refreshed_narrow : (s u : Revised) → refreshed_run (Some number_limit) f s ≡ Ok u → NarrowState s → NarrowState u
   refreshed_narrow s u h n = by (nat_eq s.replaced replacements) h
     where
@@ -233,6 +242,7 @@ module _ (f : Form) (starts : List (RowStart ℚ)) (form : IsNarrowForm f) where
       by true q = refactor_narrow s.bare u q n
       by false q = let z : s ≡ u = cc in subst NarrowState z n
 
+  -- a pivot over factors leaves numbers of at most 127 bits, where state and tableau have such
   pivot_over_narrow : (s u : Revised) (t : Tableau) (p j : ℕ) (theta : ℚ) (to : Status) →
       pivot_over_run (Some number_limit) f s t p j theta to ≡ Ok u → NarrowState s → AreNarrow t → NarrowState u
   pivot_over_narrow s u t p j theta to h n k =
@@ -243,15 +253,18 @@ module _ (f : Form) (starts : List (RowStart ℚ)) (form : IsNarrowForm f) where
 
   -- ---- steps up to an end
 
+  -- the last state of a run over factors, and what its last step sees, have numbers of at most 127 bits
   record NarrowEnded (e : RevisedEnded) : Type 0 where
     pub state : NarrowState e.state
     pub selection : NarrowSelection e.selection
 
+  -- a run that ends at a state and a sight with numbers of at most 127 bits has such numbers at its end
   ended_narrow : (s : Revised) (used : ℕ) (selection : Selection) (end : PrimalEnd) (e : RevisedEnded) →
       ◌≡◌ {A = RevisedEnded} (record { end = end; state = s; selection = selection; used = used }) e → NarrowState s →
       NarrowSelection selection → NarrowEnded e
   ended_narrow s used selection end e z n k = subst NarrowEnded z (record { state = n; selection = k })
 
+  -- a run without budget, at a state and a sight with numbers of at most 127 bits, ends with such numbers or not at all
   spent_narrow : (s : Revised) (used : ℕ) (selection : Selection) (choice : Choice ℚ) (e : RevisedEnded) →
       over_or_spent s used selection choice ≡ Ok e → NarrowState s → NarrowSelection selection → NarrowEnded e
   spent_narrow s used selection (End end) e h n k = ended_narrow s used selection end e
@@ -260,6 +273,8 @@ module _ (f : Form) (starts : List (RowStart ℚ)) (form : IsNarrowForm f) where
   spent_narrow s used selection (Flip j) e h n k = cc
   spent_narrow s used selection (Pivot p j theta to) e h n k = cc
 
+  -- a run over factors ends with numbers of at most 127 bits, if its state and sight have such and each next state
+  -- leads to such
   next_narrow : (s : Revised) (used : ℕ) (next : Revised → Result RevisedEnded (RunStop ℚ)) (selection : Selection)
       (choice : Choice ℚ) (e : RevisedEnded) →
       over_or_next (Some number_limit) f s used next selection choice ≡ Ok e → NarrowState s →
@@ -276,6 +291,7 @@ module _ (f : Form) (starts : List (RowStart ℚ)) (form : IsNarrowForm f) where
       let o = then_ok (pivot_over_run (Some number_limit) f s selection.tableau p j theta to) next e h in
       go o.0 o.2 (pivot_over_narrow s o.0 selection.tableau p j theta to o.1 n k.tableau)
 
+  -- steps over factors from a state with numbers of at most 127 bits end with such numbers
   from_narrow : (costs : List ℚ) (left used : ℕ) (s : Revised) (e : RevisedEnded) →
       over_from (Some number_limit) f starts costs left used s ≡ Ok e → All IsNarrow costs → NarrowState s →
       NarrowEnded e
@@ -298,6 +314,7 @@ module _ (f : Form) (starts : List (RowStart ℚ)) (form : IsNarrowForm f) where
 
   -- ---- both phases
 
+  -- phase one over factors ends with numbers of at most 127 bits, where costs and state have such
   one_narrow_phase : (budget : ℕ) (s : Revised) (e : RevisedEnded) →
       over_one (Some number_limit) budget f starts s ≡ Ok e → All IsNarrow (first_costs f starts) → NarrowState s →
       NarrowEnded e
@@ -312,6 +329,7 @@ module _ (f : Form) (starts : List (RowStart ℚ)) (form : IsNarrowForm f) where
           e = cc in
           ended_narrow s 0 (nothing_seen s) Optimal e z n (record { multipliers = All-nil IsNarrow; tableau = n })
 
+  -- the state with which phase two begins has numbers of at most 127 bits, where the one before has such
   second_narrow : (s : Revised) → NarrowState s → NarrowState (second_state s)
   second_narrow s n = record {
     entries = n.entries;
@@ -323,13 +341,16 @@ module _ (f : Form) (starts : List (RowStart ℚ)) (form : IsNarrowForm f) where
 
   -- ---- what it ends with
 
+  -- the negatives of numbers of at most 127 bits have at most 127 bits
   negatives_narrow : (m : ℕ) (y : List ℚ) → All IsNarrow y → All IsNarrow (negatives m y)
   negatives_narrow m y h =
       All-made IsNarrow m (λ i. neg_ℚ (get_or y i 0ℚ)) (λ i l. neg_narrow (get_or y i 0ℚ) (number_at y h i))
 
+  -- the certificate of an answer over factors has numbers of at most 127 bits
   abbrev NarrowAnswer : OverEnd → Type 0
   NarrowAnswer a = IsNarrowCertificate a.certificate
 
+  -- the certificate that is read off a tableau and a step's sight with numbers of at most 127 bits has such numbers
   certificate_by : (t : Tableau) (selection : Selection) (end : PrimalEnd) → AreNarrow t → NarrowSelection selection →
       IsNarrowCertificate (over_certificate t selection end)
   certificate_by t selection Optimal n k =
@@ -340,6 +361,7 @@ module _ (f : Form) (starts : List (RowStart ℚ)) (form : IsNarrowForm f) where
         (λ i l. moves_narrow selection.tableau j way i selection.tableau.rows k.tableau),
   )
 
+  -- what comes after phase one over factors has numbers of at most 127 bits, where its end has such
   two_narrow_phases : (budget : ℕ) (one : RevisedEnded) (a : OverEnd) →
       over_two (Some number_limit) budget f starts one ≡ Ok a → NarrowEnded one → NarrowAnswer a
   two_narrow_phases budget one a h n =
@@ -350,6 +372,7 @@ module _ (f : Form) (starts : List (RowStart ℚ)) (form : IsNarrowForm f) where
       (second_narrow one.state n.state) in
       subst NarrowAnswer z (certificate_by o.0.state.bare o.0.selection o.0.end k.state k.selection)
 
+  -- both phases over factors answer with numbers of at most 127 bits, where costs and state have such
   phases_narrow : (budget : ℕ) (s : Revised) (a : OverEnd) →
       over_phases (Some number_limit) budget f starts s ≡ Ok a → All IsNarrow (first_costs f starts) → NarrowState s →
       NarrowAnswer a
@@ -384,9 +407,12 @@ run_narrow budget f a h n =
 -- ---- the whole run
 
 module _ (known : Known ℚ) (cert : Certificate (List ℚ)) (basis : Option (List Status)) (pivots : ℕ) where
+  -- the end has just this answer, certificate, basis and count of pivots
   abbrev IsThisEnd : ExactSolveEnd → Type 0
   IsThisEnd o = o ≡ outcome.Ended known cert basis pivots
 
+  -- where what comes after a run over factors is this end, and the run's certificate has numbers of at most 127 bits,
+  -- so has the end's
   by_run : (m : Model) (r : Result OverEnd (RunStop ℚ)) → IsThisEnd (after_over (Some number_limit) m r) →
       ((a : OverEnd) → r ≡ Ok a → IsNarrowCertificate a.certificate) → IsNarrowCertificate cert
   by_run m (Ok a) e h =
@@ -397,6 +423,8 @@ module _ (known : Known ℚ) (cert : Certificate (List ℚ)) (basis : Option (Li
   by_run m (Err stop.Spent) e h =
       let z : ◌≡◌ {A = ExactSolveEnd} outcome.Spent (outcome.Ended known cert basis pivots) = e in cc
 
+  -- the certificate with which a run over factors for a kept model ends, at the program's limit, has numbers of at most
+  -- 127 bits
   pub over_narrow : (budget : ℕ) (m : Model) (f : Form) → form_of (Some number_limit) m ≡ Ok f → IsModel m →
       over_factors (Some number_limit) budget m f ≡ outcome.Ended known cert basis pivots → IsNarrowCertificate cert
   unfolding over_factors

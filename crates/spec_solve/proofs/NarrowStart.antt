@@ -5,10 +5,11 @@
 -- `least_narrow`: a cost of at most 127 bits has at most 127 bits with the sign of the sense.
 -- `form_narrow`: the form of a model whose numbers are within 127 bits has such numbers.
 -- `form_entry_narrow`: each entry of a form whose numbers have at most 127 bits has at most 127 bits.
--- `row_start_narrow`: what a row begins with, where nothing is refused at 127 bits, is within them.
+-- `row_start_narrow`: the sum or gap with which a row begins, where nothing is refused at 127 bits, is within them.
 -- `one_at_narrow`: where v has at most 127 bits, so has each number of the list with v at one place and 0 at all
 --   others.
--- `priced_narrow`: reduced costs of costs within 127 bits, where nothing is refused, are within 127 bits.
+-- `priced_narrow`: the reduced costs that a tableau gives for costs within 127 bits, where nothing is refused, are
+--   within 127 bits.
 -- `start_narrow`: the first tableau of a form whose numbers are within 127 bits has such numbers.
 use Rattle.std.proofs.Common.{◌≡◌, ◌+◌, ◌-◌, ℕ, suc, Bool, true, false, cond, Option, Some, None, Ok, List, [], ◌∷◌}
 use Rattle.std.proofs.Common.{get_or, map, replicate, nat_eq, subst, arith}
@@ -55,23 +56,27 @@ one_narrow = record { top = omega arith; bottom = omega arith }
 
 -- ---- the form
 
+-- all numbers of a model's rows and columns have at most 127 bits
 pub record IsNarrowModel (m : Model) : Type 0 where
   pub rows : All IsNarrowRow m.rows
   pub columns : All IsNarrowColumn m.columns
 
+-- all numbers of a form, its entries, bounds and costs, have at most 127 bits
 pub record IsNarrowForm (f : Form) : Type 0 where
   pub entries : All (All (λ e. IsNarrow e.1)) f.entries
   pub lower : All NarrowBound f.lower
   pub upper : All NarrowBound f.upper
   pub cost : All IsNarrow f.cost
 
+-- a lower and an upper limit, each of which may be absent
 abbrev Pair : Type 0
 Pair = Option ℚ × Option ℚ
 
+-- each of both limits, if it is there, has at most 127 bits
 abbrev NarrowPair : Pair → Type 0
 NarrowPair p = NarrowBound p.0 × NarrowBound p.1
 
--- what takes no operation is narrow
+-- a limit of a row that takes no operation has at most 127 bits; of each other one nothing is asked
 abbrev IsNarrowGiven : RowLimit ℚ → Type 0
 IsNarrowGiven (Given v) = IsNarrow v
 IsNarrowGiven other = Unit {0}
@@ -173,6 +178,7 @@ form_entry_narrow f n i j =
 
 -- ---- what rows begin with
 
+-- the number with which a row begins, its sum or its gap to a limit, has at most 127 bits
 abbrev pub NarrowStart : RowStart ℚ → Type 0
 NarrowStart (Within v) = IsNarrow v
 NarrowStart (Below gap) = IsNarrow gap
@@ -302,20 +308,25 @@ first_cost_narrow (Below gap) = one_narrow
 first_cost_narrow (Above gap) = one_narrow
 
 module _ (f : Form) (starts : List (RowStart ℚ)) (n : IsNarrowForm f) (h : All NarrowStart starts) where
+  -- each lower bound of the form has at most 127 bits
   lower_narrow : (k : ℕ) → NarrowBound (form_lower f k)
   lower_narrow k = bound_at f.lower n.lower k
 
+  -- each upper bound of the form has at most 127 bits
   upper_narrow : (k : ℕ) → NarrowBound (form_upper f k)
   upper_narrow k = bound_at f.upper n.upper k
 
+  -- the first value of each structural column has at most 127 bits
   first_narrow : (k : ℕ) → IsNarrow (first_value f k)
   first_narrow k =
       stand_narrow (first_status (form_lower f k) (form_upper f k)) (form_lower f k) (form_upper f k) (lower_narrow k)
       (upper_narrow k)
 
+  -- the number with which row r begins has at most 127 bits
   at_start : (r : ℕ) → NarrowStart (start_at starts r)
   at_start r = at NarrowStart starts (Within 0ℚ) h zero_narrow r
 
+  -- each entry of the first tableau has at most 127 bits
   start_entry_narrow : (i k : ℕ) → IsNarrow (start_entry f (start_at starts i) i k)
   start_entry_narrow i k =
       by_column_narrow f k (structural_entry (start_at starts i) (form_entry f i k))
@@ -324,6 +335,7 @@ module _ (f : Form) (starts : List (RowStart ℚ)) (n : IsNarrowForm f) (h : All
       (λ r. one_at_narrow i r (logical_sign (start_at starts i)) (sign_narrow (start_at starts i)))
       (λ r. one_at_narrow i r 1ℚ one_narrow)
 
+  -- each value of the first tableau has at most 127 bits
   start_value_narrow : (k : ℕ) → IsNarrow (start_value f starts k)
   start_value_narrow k =
       by_column_narrow f k (first_value f k) (λ r. logical_value (start_at starts r) (form_lower f k) (form_upper f k))
@@ -332,6 +344,7 @@ module _ (f : Form) (starts : List (RowStart ℚ)) (n : IsNarrowForm f) (h : All
       (λ r. logical_narrow (start_at starts r) (form_lower f k) (form_upper f k) (at_start r) (lower_narrow k)
       (upper_narrow k)) (λ r. artificial_narrow (start_at starts r) (at_start r))
 
+  -- where the form and the rows' starts have numbers of at most 127 bits, so has the tableau that begins with them
   pub begun_narrow : AreNarrow (begun f starts)
   begun_narrow = record {
     entries = All-made (All IsNarrow) f.rows (start_row f starts)
@@ -347,6 +360,7 @@ module _ (f : Form) (starts : List (RowStart ℚ)) (n : IsNarrowForm f) (h : All
         (All-map NarrowBound artificial_upper starts (λ k d l. artificial_bound (get_or starts k d)));
   }
 
+  -- where the form and the rows' starts have numbers of at most 127 bits, so have the costs of phase one
   pub first_costs_narrow : All IsNarrow (first_costs f starts)
   first_costs_narrow =
       All-append IsNarrow (replicate (f.cols + f.rows) 0ℚ) (map first_cost starts)

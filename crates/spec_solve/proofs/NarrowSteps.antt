@@ -33,9 +33,11 @@ use Rattle.spec_simplex.specs.Step.{shifted_run, pivot_run}
 use Rattle.spec_simplex.proofs.RunParts.{then_ok, steps_ok}
 use Rattle.spec_solve.proofs.NarrowRuns.{sum_narrow, quotient_narrow, less_narrow, all_given}
 
+-- a bound, if it is there, has at most 127 bits
 abbrev pub NarrowBound : Option ℚ → Type 0
 NarrowBound bound = IfSome bound IsNarrow
 
+-- all numbers of a tableau, its entries, values, reduced costs and bounds, have at most 127 bits
 pub record AreNarrow (t : Tableau) : Type 0 where
   pub entries : All (All IsNarrow) t.entries
   pub value : All IsNarrow t.value

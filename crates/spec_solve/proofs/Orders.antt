@@ -32,11 +32,13 @@ use Rattle.spec_factor.proofs.OverCold.{over_same}
 use Rattle.spec_solve.specs.Order.{GivesUp, IsChecked, MayEndCold, Answered, GaveUp, MayEndBy, MayEnd}
 use Rattle.spec_solve.specs.Order.{or_tableaus, cold_by, cold_over}
 
+-- the first end is the second, or says that an operation was refused
 abbrev Same : ExactSolveEnd → ExactSolveEnd → Type 0
 Same o u = (o ≡ u) ⊎ ((p : Refused ℚ) × (o ≡ Past p))
 
 -- ---- an end with an answer was checked
 
+-- the end gives up, or has a certificate that the checker at the limit accepts
 abbrev ChecksOut : Option ℕ → Model → ExactSolveEnd → Type 0
 ChecksOut limit m end = GivesUp end ⊎ IsChecked limit m end
 
@@ -98,24 +100,27 @@ check_without limit m c known h =
 -- ---- which ends may be
 
 module _ (limit : Option ℕ) (budget : ℕ) (m : Model) where
+  -- where the model has a form at the limit, the run over factors of it gives up
   abbrev FactorsGiveUp : Type 0
   FactorsGiveUp = (f : Form) → form_of limit m ≡ Ok f → GivesUp (over_factors limit budget m f)
 
-  -- one with an answer
+  -- an end that is checked, and the same as that of the cold solve without a limit, is one with which the cold part may
+  -- end
   answered_may : (end : ExactSolveEnd) → Same end (cold None budget m) → IsChecked limit m end →
       ((why : FormFault ℚ) → form_of limit m ≡ Err why → end ≡ cold limit budget m) → MayEndCold limit budget m end
   answered_may end (inl e) checks formless = Answered e checks formless
   answered_may end (inr p) checks formless =
       absurd (not_both limit m end (refused_gives_up end p.0 p.1) checks)
 
-  -- that of the solve over whole tableaus, where the run over factors gives up
+  -- where the run over factors gives up, the cold part may end as the solve over whole tableaus at the limit
   tableaus_may : FactorsGiveUp → MayEndCold limit budget m (cold limit budget m)
   tableaus_may factors =
       ⊎_elim (λ up. GaveUp up refl factors)
       (λ checks. answered_may (cold limit budget m) (cold_same limit budget m) checks (λ why e. refl))
       (cold_checks_out limit budget m)
 
-  -- that of the two stated runs
+  -- for a model with a form, the cold part may end as the run over factors, or where that gives up as the solve over
+  -- whole tableaus
   or_may : (f : Form) → form_of limit m ≡ Ok f → (o : ExactSolveEnd) → over_factors limit budget m f ≡ o →
       MayEndCold limit budget m (or_tableaus o (cold limit budget m))
   or_may f formed (Ended known c basis pivots) q =
@@ -132,26 +137,31 @@ module _ (limit : Option ℕ) (budget : ℕ) (m : Model) where
       (λ g h. subst (λ g. GivesUp (over_factors limit budget m g)) (same_form limit m f g formed h)
       (subst GivesUp (sym q) tt))
 
+  -- the cold part by a model's form, or by its fault, ends as the cold part may end
   pub by_may : (o : Result Form (FormFault ℚ)) → form_of limit m ≡ o →
       MayEndCold limit budget m (cold_by limit budget m o)
   by_may (Ok f) e = or_may f e (over_factors limit budget m f) refl
   by_may (Err why) e = tableaus_may (λ f h. absurd (not_formless limit m f why h e))
 
+  -- the cold part over factors at the limit ends as the cold part may end
   pub part_may : MayEndCold limit budget m (cold_over limit budget m)
   unfolding cold_over
   part_may = by_may (form_of limit m) refl
 
-  -- that of the cold solve at the limit, for a model without a form
+  -- for a model without a form, the cold part may end as the cold solve at the limit
   pub formless_may : (why : FormFault ℚ) → form_of limit m ≡ Err why → MayEndCold limit budget m (cold limit budget m)
   formless_may why e = tableaus_may (λ f h. absurd (not_formless limit m f why h e))
 
   -- what the check makes of the end of both phases without a limit
   module _ (f : Form) (formed : form_of limit m ≡ Ok f) (e : PhasesEnd) (ended : phases_run None budget f ≡ Ok e) where
+    -- where both phases without a limit end, the cold solve without a limit is that end with its certificate checked
     exact_is : cold None budget m ≡ answered None m (certificate_of e) (basis_of e) (pivots_of e)
     unfolding cold
     exact_is =
         ap (after_form None budget m) (form_without limit m f formed) ∙ ap (after_phases None m) ended
 
+    -- where both phases without a limit end, and the check at the limit accepts that end's certificate, the cold part
+    -- may end with it
     pub checked_ends_may : (known : Known ℚ) → check_run limit m (certificate_of e) ≡ Ok known →
         MayEndCold limit budget m (Ended known (certificate_of e) (basis_of e) (pivots_of e))
     checked_ends_may known accepted =
@@ -160,7 +170,8 @@ module _ (limit : Option ℕ) (budget : ℕ) (m : Model) where
         (check_without limit m (certificate_of e) known accepted)))
         accepted (λ why h. absurd (not_formless limit m f why formed h))
 
-    -- either way
+    -- where both phases without a limit end, the cold part may end so once the checker at the limit accepts the
+    -- certificate; else the check gives up
     pub checked_may : MayEndCold limit budget m (answered limit m (certificate_of e) (basis_of e) (pivots_of e))
         ⊎ GivesUp (answered limit m (certificate_of e) (basis_of e) (pivots_of e))
     checked_may = by (check_run limit m (certificate_of e)) refl
@@ -175,20 +186,24 @@ module _ (limit : Option ℕ) (budget : ℕ) (m : Model) where
 -- ---- what holds of each end that may be
 
 module _ (limit : Option ℕ) (budget : ℕ) (m : Model) where
+  -- each end with which the cold part may end agrees with that of the cold solve without a limit, by `Same`
   pub part_same : (end : ExactSolveEnd) → MayEndCold limit budget m end → Same end (cold None budget m)
   part_same end (Answered e checks formless) = inl e
   part_same end (GaveUp up e factors) = subst (λ o. Same o (cold None budget m)) (sym e) (cold_same limit budget m)
 
+  -- an answer with which the cold part may end is the one with which the cold solve without a limit ends
   pub part_ends : (known : Known ℚ) (cert : Certificate (List ℚ)) (left : Option (List Status)) (pivots : ℕ) →
       MayEndCold limit budget m (Ended known cert left pivots) → cold None budget m ≡ Ended known cert left pivots
   part_ends known cert left pivots (Answered e checks formless) = sym e
   part_ends known cert left pivots (GaveUp up e factors) = absurd up
 
+  -- the certificate of an answer with which the cold part may end is accepted at the limit
   part_checked : (known : Known ℚ) (cert : Certificate (List ℚ)) (left : Option (List Status)) (pivots : ℕ) →
       MayEndCold limit budget m (Ended known cert left pivots) → check_run limit m cert ≡ Ok known
   part_checked known cert left pivots (Answered e checks formless) = checks
   part_checked known cert left pivots (GaveUp up e factors) = absurd up
 
+  -- the certificate with which the cold solve without a limit ends fits the model
   part_fits : (known : Known ℚ) (cert : Certificate (List ℚ)) (left : Option (List Status)) (pivots : ℕ) →
       cold None budget m ≡ Ended known cert left pivots → IsFor m cert
   part_fits known cert left pivots =
@@ -197,6 +212,8 @@ module _ (limit : Option ℕ) (budget : ℕ) (m : Model) where
       (λ p e. let z : ◌≡◌ {A = ExactSolveEnd} (Past p) (Ended known cert left pivots) = e in cc)
       (λ f p q e. let z : ◌≡◌ {A = ExactSolveEnd} Spent (Ended known cert left pivots) = e in cc)
 
+  -- an answer with which the cold part may end holds of the model, and its certificate fits the model and is accepted
+  -- at the limit
   pub part_true : (known : Known ℚ) (cert : Certificate (List ℚ)) (left : Option (List Status)) (pivots : ℕ) →
       MayEndCold limit budget m (Ended known cert left pivots) →
       Holds m known × IsFor m cert × (check_run limit m cert ≡ Ok known)
@@ -207,16 +224,19 @@ module _ (limit : Option ℕ) (budget : ℕ) (m : Model) where
         part_checked known cert left pivots may,
       )
 
+  -- where the cold part may end by giving up, it gives up as the cold solve over whole tableaus at the limit does
   pub tableaus_give_up : (end : ExactSolveEnd) → MayEndCold limit budget m end → GivesUp end →
       end ≡ cold limit budget m
   tableaus_give_up end (Answered e checks formless) up = absurd (not_both limit m end up checks)
   tableaus_give_up end (GaveUp up e factors) up' = e
 
+  -- where the cold part may end by giving up, the run over factors at the limit gives up
   pub factors_give_up : (end : ExactSolveEnd) (f : Form) → form_of limit m ≡ Ok f → MayEndCold limit budget m end →
       GivesUp end → GivesUp (over_factors limit budget m f)
   factors_give_up end f formed (Answered e checks formless) up = absurd (not_both limit m end up checks)
   factors_give_up end f formed (GaveUp up e factors) up' = factors f formed
 
+  -- for a model without a form, the cold part may end only as the cold solve at the limit
   pub formless_ends : (end : ExactSolveEnd) (why : FormFault ℚ) → form_of limit m ≡ Err why →
       MayEndCold limit budget m end → end ≡ cold limit budget m
   formless_ends end why no_form (Answered e checks formless) = formless why no_form
@@ -224,13 +244,17 @@ module _ (limit : Option ℕ) (budget : ℕ) (m : Model) where
 
   -- ---- answers are only added
 
+  -- the first end is the second, unless the second gives up
   abbrev Kept : ExactSolveEnd → ExactSolveEnd → Type 0
   Kept end other = (end ≡ other) ⊎ GivesUp other
 
+  -- an end that is that of the cold solve without a limit is each other end that agrees with it by `Same`, unless that
+  -- one gives up
   kept_by : (end other : ExactSolveEnd) → end ≡ cold None budget m → Same other (cold None budget m) → Kept end other
   kept_by end other e (inl is) = inl (e ∙ sym is)
   kept_by end other e (inr p) = inr (refused_gives_up other p.0 p.1)
 
+  -- where the run over factors gives up, the cold part over factors is the solve over whole tableaus
   given_up : FactorsGiveUp limit budget m → cold limit budget m ≡ cold_over limit budget m
   unfolding cold_over
   given_up factors = by (form_of limit m) refl
@@ -244,19 +268,23 @@ module _ (limit : Option ℕ) (budget : ℕ) (m : Model) where
       by (Ok f) e = or_given (over_factors limit budget m f) (factors f e)
       by (Err why) e = refl
 
+  -- each end with which the cold part may end is that of the stated cold part over factors, unless that one gives up
   pub stated_kept : (end : ExactSolveEnd) → MayEndCold limit budget m end → Kept end (cold_over limit budget m)
   stated_kept end (Answered e checks formless) =
       kept_by end (cold_over limit budget m) e
       (part_same (cold_over limit budget m) (part_may limit budget m))
   stated_kept end (GaveUp up e factors) = inl (e ∙ given_up factors)
 
+  -- each end with which the cold part may end is that of the cold solve at the limit, unless that one gives up
   pub part_kept : (end : ExactSolveEnd) → MayEndCold limit budget m end → Kept end (cold limit budget m)
   part_kept end (Answered e checks formless) = kept_by end (cold limit budget m) e (cold_same limit budget m)
   part_kept end (GaveUp up e factors) = inl e
 
+  -- the first solve is the second, with its route, unless the second gives up
   abbrev KeptSolve : SolveEnd → SolveEnd → Type 0
   KeptSolve s t = (s ≡ t) ⊎ GivesUp t.end
 
+  -- where an end is that of the cold solve at the limit, unless this gives up, so is a solve with it and a route
   solved_kept : (s : SolveEnd) (way : Route) → s.route ≡ way → Kept s.end (cold limit budget m) →
       KeptSolve s (record { end = cold limit budget m; route = way })
   solved_kept s way h (inl e) =
@@ -264,11 +292,13 @@ module _ (limit : Option ℕ) (budget : ℕ) (m : Model) where
       ∙ ap (λ way. record { end = cold limit budget m; route = way }) h)
   solved_kept s way h (inr up) = inr up
 
+  -- a solve that may end so after a warm start is the stated solve after this start, unless that one gives up
   warm_kept : (w : WarmResult) (s : SolveEnd) → MayEndBy limit budget m w s →
       KeptSolve s (solved_by (cold limit budget m) w)
   warm_kept (warms.Ended known c left pivots) s h = inl h
   warm_kept (warms.Stopped why) s h = solved_kept s (route.Fell (fall_of why)) h.1 (part_kept s.end h.0)
 
+  -- each end with which a solve may end is kept by the stated solve: the same, unless that one gives up
   pub solve_kept : (handed : Option (List Status)) (s : SolveEnd) → MayEnd limit budget m handed s →
       KeptSolve s (solve limit budget m handed)
   unfolding solve MayEnd

@@ -51,12 +51,13 @@ cold_fits limit budget m known c basis pivots =
     (λ p e. let z : ◌≡◌ {A = ExactSolveEnd} (Past p) (Ended known c basis pivots) = e in cc)
     (λ f p q e. let z : ◌≡◌ {A = ExactSolveEnd} Spent (Ended known c basis pivots) = e in cc)
 
--- where a solve ends so, its certificate is one for the model, of narrow numbers
+-- where the end has an answer, its certificate is for the model, with numbers of at most 127 bits
 abbrev pub HasFitEnd : Model → ExactSolveEnd → Type 0
 HasFitEnd m end = (known : Known ℚ) (c : Certificate (List ℚ)) (basis : Option (List Status)) (pivots : ℕ) →
     end ≡ Ended known c basis pivots → IsFor m c × IsNarrowCertificate c
 
 module _ (m : Model) (budget : ℕ) where
+  -- the cold part of a solve of the model at the limit of the program, within the budget, may end so
   abbrev pub MayEndSo : ExactSolveEnd → Type 0
   MayEndSo end = MayEndCold (Some number_limit) budget m end
 
@@ -64,6 +65,7 @@ module _ (m : Model) (budget : ℕ) where
   given_up : (end : ExactSolveEnd) → MayEndSo end → GivesUp end → cold (Some number_limit) budget m ≡ end
   given_up end may h = sym (tableaus_give_up (Some number_limit) budget m end may h)
 
+  -- an end that the cold part may have, with a certificate that fits, may be answered
   cold_may : (end : ExactSolveEnd) → MayEndSo end → HasFitEnd m end → MayAnswer m budget end
   cold_may (Ended known c basis pivots) may fit =
       let f = fit known c basis pivots refl in
@@ -71,6 +73,7 @@ module _ (m : Model) (budget : ℕ) where
   cold_may (Past p) may fit = given_up (Past p) may tt
   cold_may Spent may fit = let tableaus = given_up Spent may tt in (tableaus, spent_is_below m budget tableaus)
 
+  -- an end that the cold part may have fits the cold solve
   cold_how : (end : ExactSolveEnd) → MayEndSo end → ColdFits m budget end
   cold_how (Ended known c basis pivots) may = part_ends (Some number_limit) budget m known c basis pivots may
   cold_how (Past p) may = tt
@@ -78,6 +81,7 @@ module _ (m : Model) (budget : ℕ) where
 
   -- ---- a model without a form
 
+  -- the certificate of a clash has no number past 127 bits
   clash_narrow : (j : ℕ) (r : Run (Known ℚ)) (known : Known ℚ) (c : Certificate (List ℚ)) (basis : Option (List Status))
       (pivots : ℕ) →
       checked (certificate.Clash j) None 0 r ≡ Ended known c basis pivots → IsNarrowCertificate c
@@ -86,6 +90,7 @@ module _ (m : Model) (budget : ℕ) where
   clash_narrow j (Err (check.Past p)) known c basis pivots e = cc
   clash_narrow j (Err (check.No n)) known c basis pivots e = cc
 
+  -- the certificate of an end that a fault of the form makes has numbers of at most 127 bits
   fault_narrow : (why : FormFault ℚ) (known : Known ℚ) (c : Certificate (List ℚ)) (basis : Option (List Status))
       (pivots : ℕ) →
       after_form (Some number_limit) budget m (Err why) ≡ Ended known c basis pivots → IsNarrowCertificate c
@@ -93,6 +98,7 @@ module _ (m : Model) (budget : ℕ) where
       clash_narrow j (check_run (Some number_limit) m (certificate.Clash j)) known c basis pivots e
   fault_narrow (fault.Past p) known c basis pivots e = cc
 
+  -- the certificate with which the cold solve of a model without a form ends has numbers of at most 127 bits
   formless_narrow : (why : FormFault ℚ) → form_of (Some number_limit) m ≡ Err why →
       (known : Known ℚ) (c : Certificate (List ℚ)) (basis : Option (List Status)) (pivots : ℕ) →
       cold (Some number_limit) budget m ≡ Ended known c basis pivots → IsNarrowCertificate c
@@ -103,6 +109,7 @@ module _ (m : Model) (budget : ℕ) where
 
   -- ---- with nothing handed
 
+  -- an end that the cold part may have, with a certificate that fits the model, is a solve of it from no basis
   pub cold_solved : (end : ExactSolveEnd) → MayEndSo end → HasFitEnd m end →
       IsSolved m budget None (record { end = end; route = route.Cold })
   cold_solved end may fit = record {
@@ -112,7 +119,7 @@ module _ (m : Model) (budget : ℕ) where
     by_factors = λ f formed h. factors_give_up (Some number_limit) budget m end f formed may h;
   }
 
-  -- of a model without a form, the cold solve at the limit
+  -- for a model without a form, the cold solve at the limit is a solve of the model from no basis
   pub formless_solved : (why : FormFault ℚ) → form_of (Some number_limit) m ≡ Err why →
       IsSolved m budget None (record { end = cold (Some number_limit) budget m; route = route.Cold })
   formless_solved why no_form =
@@ -125,17 +132,21 @@ module _ (m : Model) (budget : ℕ) where
   -- ---- the solve from a basis of the form
 
   module _ (basis : List Status) (has : HasBasis (Some number_limit) m basis) where
+    -- a basis that a model has is one of the model's form
     form_is_based : (f : Form) → form_of (Some number_limit) m ≡ Ok f → IsBasisOf f basis
     form_is_based f e =
         let same : has.0 ≡ f = let both = sym has.1 ∙ e in cc in
         subst (λ f. IsBasisOf f basis) same has.2
 
+    -- a model that has a basis has a form
     formed : (why : FormFault ℚ) → form_of (Some number_limit) m ≡ Err why → ⊥
     formed why e = let both = sym has.1 ∙ e in cc
 
+    -- a solve of the model at the limit of the program may end so after this end of a warm start
     abbrev MayEndSoBy : WarmResult → SolveEnd → Type 0
     MayEndSoBy result s = MayEndBy (Some number_limit) budget m result s
 
+    -- an end that a warm start may have, with a certificate that fits, may be answered
     warm_may : (result : WarmResult) (s : SolveEnd) → warm_start (Some number_limit) budget m basis ≡ result →
         MayEndSoBy result s → HasFitEnd m s.end → MayAnswer m budget s.end
     warm_may (warm.Ended known c left pivots) s e is fit =
@@ -144,10 +155,12 @@ module _ (m : Model) (budget : ℕ) where
         (f.0, f.1, (warm_ends.ended_is_true (Some number_limit) budget m basis known c left pivots form_is_based e).1)
     warm_may (warm.Stopped stop) s e may fit = cold_may s.end may.0 fit
 
+    -- an end that a warm start may have fits the warm start
     warm_how : (result : WarmResult) (s : SolveEnd) → MayEndSoBy result s → WarmFits m budget result s
     warm_how (warm.Ended known c left pivots) s is = is
     warm_how (warm.Stopped stop) s may = (may.1, cold_how s.end may.0)
 
+    -- where an end that a warm start may have gives up, the run over factors gives up
     warm_by_factors : (result : WarmResult) (s : SolveEnd) → MayEndSoBy result s →
         (f : Form) → form_of (Some number_limit) m ≡ Ok f → GivesUp s.end →
         GivesUp (over_factors (Some number_limit) budget m f)
@@ -155,6 +168,7 @@ module _ (m : Model) (budget : ℕ) where
         absurd (subst (λ (s : SolveEnd). GivesUp s.end) is h)
     warm_by_factors (warm.Stopped stop) s may f e h = factors_give_up (Some number_limit) budget m s.end f e may.0 h
 
+    -- an end that a warm start may have, with a certificate that fits, is a solve from this basis
     warm_solved : (s : SolveEnd) → MayEndSoBy (warm_start (Some number_limit) budget m basis) s → HasFitEnd m s.end →
         IsSolved m budget (Some basis) s
     warm_solved s may fit = record {
@@ -177,6 +191,8 @@ module _ (m : Model) (budget : ℕ) where
 
   -- nothing else is allowed
 
+  -- an end that may be answered, fits the cold solve, is the cold solve's for a model without a form, and gives up only
+  -- where the run over factors does, is one with which a solve may end
   cold_ends : (end : ExactSolveEnd) → MayAnswer m budget end → ColdFits m budget end →
       ((why : FormFault ℚ) → form_of (Some number_limit) m ≡ Err why → end ≡ cold (Some number_limit) budget m) →
       ((f : Form) → form_of (Some number_limit) m ≡ Ok f → GivesUp end →
@@ -186,6 +202,8 @@ module _ (m : Model) (budget : ℕ) where
   cold_ends (Past p) may fits formless factors = GaveUp tt (sym may) (λ f h. factors f h tt)
   cold_ends Spent may fits formless factors = GaveUp tt (sym may.0) (λ f h. factors f h tt)
 
+  -- a solve that fits a warm start, may be answered, and gives up only where the run over factors does, may end so
+  -- after this start
   warm_ends_by : (result : WarmResult) (s : SolveEnd) → WarmFits m budget result s → MayAnswer m budget s.end →
       ((why : FormFault ℚ) → form_of (Some number_limit) m ≡ Err why → s.end ≡ cold (Some number_limit) budget m) →
       ((f : Form) → form_of (Some number_limit) m ≡ Ok f → GivesUp s.end →
@@ -195,6 +213,7 @@ module _ (m : Model) (budget : ℕ) where
   warm_ends_by (warm.Stopped stop) s fits may formless factors =
       (cold_ends s.end may fits.1 formless factors, fits.0)
 
+  -- each solve of a model ends as a solve at the program's limit may end
   pub solved_ends : (handed : Option (List Status)) (s : SolveEnd) → IsSolved m budget handed s →
       MayEnd (Some number_limit) budget m handed s
   unfolding MayEnd
@@ -203,9 +222,11 @@ module _ (m : Model) (budget : ℕ) where
       warm_ends_by (warm_start (Some number_limit) budget m basis) s h.how_fits h.may_answer h.without_form
       h.by_factors
 
+  -- the certificate of an end that may be answered is one for the model, of numbers of at most 127 bits
   answer_fits : (end : ExactSolveEnd) → MayAnswer m budget end → HasFitEnd m end
   answer_fits end may = λ known c basis pivots e.
       let h : MayAnswer m budget (Ended known c basis pivots) = subst (MayAnswer m budget) e may in (h.0, h.1)
 
+  -- the certificate of each solve's end is one for the model, of numbers of at most 127 bits
   pub solved_fits : (handed : Option (List Status)) (s : SolveEnd) → IsSolved m budget handed s → HasFitEnd m s.end
   solved_fits handed s h = answer_fits s.end h.may_answer

@@ -1,6 +1,6 @@
 -- What may be answered is true, and is what the cold solve at the limit finds.
 --
--- `ended_true`: an answer that may be given holds of the model.
+-- `ended_true`: what a solve of a model may answer holds of the model.
 -- `one_truth`: two answers that hold of one model are equal.
 use Rattle.std.proofs.Common.{◌≡◌, ℕ, List, Option, Some, refl, sym, ap, ◌∙◌, subst, pos}
 use Rattle.spec_exact.specs.Fraction.{ℚ}
@@ -26,7 +26,7 @@ ended_true m budget known cert basis pivots h =
     let sound = run_sound (Some number_limit) m cert known h.0 h.2 in
     subst (Holds m) (sym sound.1) (checks_hold m cert sound.0)
 
--- no two truths hold together, and there is one optimal value
+-- two answers that hold of one model are equal
 pub one_truth : (m : Model) (a b : Known ℚ) → Holds m a → Holds m b → a ≡ b
 one_truth m (Optimal v) (Optimal w) p q = ap Optimal (one_optimum m v w p q)
 one_truth m (Optimal v) Infeasible p q = absurd (q p.point.0 p.point.1)
@@ -40,10 +40,11 @@ one_truth m Unbounded Unbounded p q = refl
 
 module _ (m : Model) (budget : ℕ) (known : Known ℚ) (cert : Certificate (List ℚ))
     (basis : Option (List Status)) (pivots : ℕ) where
-  -- it ends with the same known
+  -- the end has the same answer, with any certificate, basis and count of pivots
   abbrev pub EndsSo : ExactSolveEnd → Type 0
   EndsSo end = (c : Certificate (List ℚ)) × (b : Option (List Status)) × (n : ℕ) × (end ≡ Ended known c b n)
 
+  -- where the cold solve at the limit ends with an answer, each end that may be answered has the same known
   pub cold_found : (end : ExactSolveEnd) → cold (Some number_limit) budget m ≡ Ended known cert basis pivots →
       MayAnswer m budget end → EndsSo end
   cold_found (Ended other c b n) found h =

@@ -17,34 +17,37 @@ use Rattle.spec_runs.specs.Solve.{SolveEnd, fall_of}
 use Rattle.spec_factor.specs.Over.{over_factors}
 use Rattle.spec_solve.specs.Order.{GivesUp}
 
--- how many pivots and flips suffice for any model of the size of m (`a_stated_budget_is_enough` of spec_runs)
+-- how many pivots and flips suffice for any model of the size of m, 2 times 3 to the power of columns plus twice the
+-- rows (`a_stated_budget_is_enough` of spec_runs)
 abbrev pub enough_pivots : Model → ℕ
 enough_pivots m = 2 * 3 ^ (width m + 2 * height m)
 
--- Something is known only by a certificate for the model, to which the checker says yes. Its numbers are of at most 127
--- bits, so that its text can be read back. An operation is past the limit, or the budget is spent, only where it is so
--- of the cold solve; and a budget is spent only where it is below the number that is enough. It names the model and the
--- budget alone.
+-- A solve of the model within this budget may end so. Something is known only by a certificate for the model, with
+-- numbers of at most 127 bits, which the checker accepts at 127 bits for just this. An operation is past the limit, or
+-- the budget is spent, only where the cold solve at 127 bits ends so; and a budget is spent only where it is below
+-- `enough_pivots`.
 abbrev pub MayAnswer : Model → ℕ → ExactSolveEnd → Type 0
 MayAnswer m budget (Ended known certificate basis pivots) =
     IsFor m certificate × IsNarrowCertificate certificate × (check_run (Some number_limit) m certificate ≡ Ok known)
 MayAnswer m budget (Past p) = cold (Some number_limit) budget m ≡ Past p
 MayAnswer m budget Spent = (cold (Some number_limit) budget m ≡ Spent) × (budget < enough_pivots m)
 
--- if a solve starts cold, what is known, its certificate, basis and pivots are those of the cold solve without a limit
+-- a solve that starts cold and has an answer has the certificate, basis and pivots of the cold solve without a limit;
+-- of a solve without an answer nothing is asked
 abbrev pub ColdFits : Model → ℕ → ExactSolveEnd → Type 0
 ColdFits m budget (Ended known certificate basis pivots) = cold None budget m ≡ Ended known certificate basis pivots
 ColdFits m budget (Past p) = Unit {0}
 ColdFits m budget Spent = Unit {0}
 
--- by how the start from the basis ended: with what the solve ends with; or it was given up, for this reason, for a cold
--- start
+-- The solve's end fits this start from a basis. Where the start ended, its end is the solve's and the route is `Warm`.
+-- Where it stopped, the route says why it stopped, and the end fits a cold solve.
 abbrev pub WarmFits : Model → ℕ → WarmResult → SolveEnd → Type 0
 WarmFits m budget (warm.Ended known certificate basis pivots) solved =
     solved ≡ record { end = Ended known certificate basis pivots; route = route.Warm }
 WarmFits m budget (warm.Stopped stop) solved = (solved.route ≡ route.Fell (fall_of stop)) × ColdFits m budget solved.end
 
--- how the end was found, by the basis that was handed to the solve, if one was
+-- the solve's end and route fit the basis that was handed to it: without one it is cold; with one it fits the start
+-- from this basis
 abbrev pub HowFits : Model → ℕ → Option (List Status) → SolveEnd → Type 0
 HowFits m budget None solved = (solved.route ≡ route.Cold) × ColdFits m budget solved.end
 HowFits m budget (Some basis) solved = WarmFits m budget (warm_start (Some number_limit) budget m basis) solved

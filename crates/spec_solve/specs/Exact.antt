@@ -28,32 +28,37 @@ RationalAnswer = ExactAnswer ℚ (List ℚ) (List Status)
 abbrev pub RationalEnd : Type 0
 RationalEnd = ExactEnd ℚ (List ℚ) (List Status)
 
--- The numerator and the denominator of a number have so few digits that its text fits a line of a certificate. Such a
--- line has at most 16,384 bytes, of which some hundred are for a letter, a name, a sign and a slash.
+-- The numerator and the denominator of a number have together at most 16,000 digits, so that its text fits a line of a
+-- certificate. Such a line has at most 16,384 bytes, of which some hundred are for a letter, a name, a sign and a
+-- slash.
 abbrev pub FitsLine : ℚ → Type 0
 FitsLine v = (above : ℕ) × (below : ℕ) × (unsigned_abs v.num < 10 ^ above) × (v.den < 10 ^ below) × (above + below ≤ 16000)
 
--- the text of each number of the certificate fits a line
+-- each number of the certificate has so few digits that its text fits a line of a certificate
 abbrev pub FitsLines : Certificate (List ℚ) → Type 0
 FitsLines (Optimal x y) = All FitsLine x × All FitsLine y
 FitsLines (Infeasible y) = All FitsLine y
 FitsLines (Clash j) = Unit {0}
 FitsLines (Unbounded x r) = All FitsLine x × All FitsLine r
 
--- the certificate is one for the model, to which the checker says yes without a limit, and its lines are short enough
+-- the certificate is one for the model, which the checker without a limit accepts for just this answer, and each of its
+-- numbers fits a line
 abbrev pub IsShown : Model → Known ℚ → Certificate (List ℚ) → Type 0
 IsShown m known certificate = IsFor m certificate × (check_run None m certificate ≡ Ok known) × FitsLines certificate
 
--- The certificate is that of the basis, which is one of the model's form, if the model has one.
+-- The certificate is of an optimum, and its point and multipliers stand at the basis. If the model has a form at 127
+-- bits, the basis is one of this form.
 pub record IsBasisOfAnswer (m : Model) (certificate : Certificate (List ℚ)) (basis : List Status) : Type 0 where
   pub stands : IsOfBasis m basis certificate
   pub of_form : (f : Form) → form_of (Some number_limit) m ≡ Ok f → IsBasisOf f basis
 
--- the answer's certificate shows it, and its basis, if there is one, is that of the certificate
+-- the answer's certificate shows it of the model, and its basis, if there is one, is that at which the certificate
+-- stands
 abbrev pub IsExactAnswer : Model → RationalAnswer → Type 0
 IsExactAnswer m a = IsShown m a.known a.certificate × IfSome a.basis (IsBasisOfAnswer m a.certificate)
 
--- a solve at 127 bits may end without an answer: an operation is refused, or the budget is spent
+-- a solve of the model at 127 bits, within this budget and from this basis, if there is one, may end without an answer:
+-- an operation is refused, or the budget is spent
 abbrev pub MayGiveUp : Model → ℕ → Option (List Status) → Type 0
 MayGiveUp m budget starting = (solved : SolveEnd) × IsSolved m budget starting solved × GivesUp solved.end
 

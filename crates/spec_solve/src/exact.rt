@@ -2,7 +2,8 @@
 
 use spec_check::{Certificate, Known};
 
-/// From where an answer was found. The count is of the pivots and flips that were made, and promises nothing.
+/// From where an exact solve found its answer. The count is of the pivots and flips that were made, and promises
+/// nothing.
 #[derive(Clone, Copy)]
 pub enum Origin {
     /// Without a basis.
@@ -13,7 +14,7 @@ pub enum Origin {
     Fell(u64),
 }
 
-/// An answer, over the types F of numbers, L of lists of numbers and B of bases.
+/// An answer of an exact solve, over the types F of numbers, L of lists of numbers and B of bases.
 #[derive(Drop)]
 pub struct ExactAnswer<F, L, B> {
     pub known: Known<F>,
@@ -24,7 +25,7 @@ pub struct ExactAnswer<F, L, B> {
     pub origin: Origin,
 }
 
-/// How an exact solve ends.
+/// How an exact solve ends: with an answer, or without one.
 #[derive(Drop)]
 pub enum ExactEnd<F, L, B> {
     Answered(ExactAnswer<F, L, B>),

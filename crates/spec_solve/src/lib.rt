@@ -60,7 +60,8 @@ pub fn cold_parts_end_as_without_a_limit()
         (end ≡ cold None budget m) ⊎ ((p : Past ℚ) × (end ≡ outcome.Past p)) }
 {}
 
-/// What a cold run over one engine ends with is true, and the checker accepts its certificate.
+/// Where the cold part of a solve ends with an answer, this is true of the model, and the checker at the limit accepts
+/// the certificate for it.
 pub fn cold_parts_end_true()
     ensures { (limit : Option ℕ) (budget : ℕ) (m : Model) (known : Known ℚ) (cert : Certificate (List ℚ))
         (basis : Option (List Status)) (pivots : ℕ) →
@@ -68,7 +69,8 @@ pub fn cold_parts_end_true()
         Holds m known × IsFor m cert × (check_run limit m cert ≡ Ok known) }
 {}
 
-/// The cold part gives up only where the run over factors does, and then ends as the solve over whole tableaus.
+/// For a model with a form at the limit, the cold part of a solve gives up only where the run over factors does. Where
+/// it gives up, for any model, it ends as the cold solve over whole tableaus at the limit.
 pub fn both_cold_runs_give_up()
     ensures factors { (limit : Option ℕ) (budget : ℕ) (m : Model) (end : ExactSolveEnd) (f : Form) →
         form_of limit m ≡ Ok f → MayEndCold limit budget m end → GivesUp end → GivesUp (over_factors limit budget m f) }
@@ -76,19 +78,21 @@ pub fn both_cold_runs_give_up()
         MayEndCold limit budget m end → GivesUp end → end ≡ cold limit budget m }
 {}
 
-/// For a model without a form at the limit nothing but the cold solve at the limit is tried.
+/// For a model without a form at the limit the cold part of a solve ends as the cold solve over whole tableaus at the
+/// limit.
 pub fn models_without_a_form_end_as_the_cold_solve()
     ensures { (limit : Option ℕ) (budget : ℕ) (m : Model) (end : ExactSolveEnd) (fault : FormFault ℚ) →
         form_of limit m ≡ Err fault → MayEndCold limit budget m end → end ≡ cold limit budget m }
 {}
 
-/// The two stated runs may be all that is tried.
+/// The cold part of a solve may end as the two stated runs do: as the run over factors. Where that gives up, or the
+/// model has no form at the limit, it may end as the solve over whole tableaus.
 pub fn stated_runs_may_end_so()
     ensures { (limit : Option ℕ) (budget : ℕ) (m : Model) → MayEndCold limit budget m (cold_over limit budget m) }
 {}
 
-/// Any other run may win the answer, if it ends as both phases without a limit do, and the checker says yes to its
-/// certificate at the limit.
+/// For a model with a form at the limit, the cold part of a solve may also end with what both phases without a limit
+/// end with, whichever run finds it. The checker at the limit has to accept its certificate.
 pub fn checked_ends_without_a_limit_may_be()
     ensures { (limit : Option ℕ) (budget : ℕ) (m : Model) (f : Form) (e : PhasesEnd) (known : Known ℚ) →
         form_of limit m ≡ Ok f → phases_run None budget f ≡ Ok e → check_run limit m (certificate_of e) ≡ Ok known →
@@ -105,14 +109,15 @@ pub fn further_runs_only_add_answers()
         (solved ≡ solve limit budget m handed) ⊎ GivesUp (solve limit budget m handed).end }
 {}
 
-/// What may be answered is true.
+/// What a solve within any budget may answer of a model is true of it.
 pub fn what_may_be_answered_is_true()
     ensures { (m : Model) (budget : ℕ) (known : Known ℚ) (cert : Certificate (List ℚ)) (basis : Option (List Status))
         (pivots : ℕ) →
         MayAnswer m budget (outcome.Ended known cert basis pivots) → Holds m known }
 {}
 
-/// Where the cold solve at the limit knows something of the model, the same is answered, and nothing else.
+/// Where the cold solve at the limit, within a budget, knows something of the model, each solve within this budget
+/// answers the same. Its certificate, basis and count of pivots may be others.
 pub fn what_the_cold_solve_finds_is_answered()
     ensures { (m : Model) (budget : ℕ) (known : Known ℚ) (cert : Certificate (List ℚ)) (basis : Option (List Status))
         (pivots : ℕ) (end : ExactSolveEnd) →
@@ -120,8 +125,8 @@ pub fn what_the_cold_solve_finds_is_answered()
         (c : Certificate (List ℚ)) × (b : Option (List Status)) × (n : ℕ) × (end ≡ outcome.Ended known c b n) }
 {}
 
-/// What a solve may end with are the ends that the relation allows at the limit, where a certificate is one for the
-/// model, of numbers of at most 127 bits.
+/// A solve at the limit may end so exactly where the relation `MayEnd` allows it and its certificate, if there is one,
+/// is for the model, with numbers of at most 127 bits. A basis that is handed must be one of the model's form.
 pub fn answers_are_ends_of_solves()
     ensures allowed { (m : Model) (budget : ℕ) (handed : Option (List Status)) (solved : SolveEnd) →
         IfSome handed (HasBasis (Some number_limit) m) → MayEnd (Some number_limit) budget m handed solved →
@@ -136,13 +141,13 @@ pub fn answers_are_ends_of_solves()
         IsFor m cert × IsNarrowCertificate cert }
 {}
 
-/// The two stated runs may be all that is tried, of a model that may be kept.
+/// Without a handed basis, a solve of a model that may be kept may end as the two stated runs do at the limit.
 pub fn stated_runs_are_solves()
     ensures { (m : Model) (budget : ℕ) → IsModel m →
         IsSolved m budget None (record { end = cold_over (Some number_limit) budget m; route = route.Cold }) }
 {}
 
-/// The basis that a solve leaves is one of the model's form, if the basis that was handed to it is.
+/// The basis that a solve leaves is one of the model's form, if any basis that was handed to it is.
 pub fn solves_leave_bases_of_the_form()
     ensures { (m : Model) (budget : ℕ) (f : Form) (handed : Option (List Status)) (solved : SolveEnd)
         (known : Known ℚ) (cert : Certificate (List ℚ)) (left : List Status) (pivots : ℕ) →
@@ -150,7 +155,7 @@ pub fn solves_leave_bases_of_the_form()
         solved.end ≡ outcome.Ended known cert (Some left) pivots → IsBasisOf f left }
 {}
 
-/// What an exact solve answers is true.
+/// What an exact solve answers of a model is true of it.
 pub fn exact_answers_are_true()
     ensures { (m : Model) (budget : ℕ) (starting : Option (List Status)) (a : RationalAnswer) →
         IsExactEnd m budget starting (exact.Answered a) → Holds m a.known }
@@ -163,7 +168,8 @@ pub fn exact_answers_agree()
         a.known ≡ b.known }
 {}
 
-/// An answer with a basis is an optimum at the point of its certificate, which is that of the basis.
+/// An exact answer that has a basis is an optimum. Its certificate's point and multipliers stand at this basis, and the
+/// value at the point is the optimal one.
 pub fn exact_answers_of_bases_are_optimal()
     ensures { (m : Model) (budget : ℕ) (starting : Option (List Status)) (a : RationalAnswer) (basis : List Status) →
         IsExactEnd m budget starting (exact.Answered a) → a.basis ≡ Some basis →
@@ -171,8 +177,8 @@ pub fn exact_answers_of_bases_are_optimal()
         × (a.known ≡ known.Optimal (value_of m x)) × IsOptimal m (value_of m x) }
 {}
 
-/// Where the cold solve at the limit knows something of a model within the usual limits, an exact solve answers the same,
-/// whatever basis it starts from.
+/// Where the cold solve at the limit, within a budget, knows something of a model within the usual limits, an exact
+/// solve within this budget answers the same, whatever basis it starts from.
 pub fn what_the_cold_solve_finds_is_answered_exactly()
     ensures { (m : Model) (budget : ℕ) (starting : Option (List Status)) (known : Known ℚ)
         (cert : Certificate (List ℚ)) (basis : Option (List Status)) (pivots : ℕ) (end : RationalEnd) → IsUsual m →
@@ -180,7 +186,8 @@ pub fn what_the_cold_solve_finds_is_answered_exactly()
         (a : RationalAnswer) × (end ≡ exact.Answered a) × (a.known ≡ known) }
 {}
 
-/// What a solve at 127 bits may answer, an exact solve may answer with the same certificate.
+/// What a solve at 127 bits may answer is shown by the same certificate without a limit, so that an exact solve may
+/// answer it.
 pub fn narrow_answers_are_exact()
     ensures { (m : Model) (budget : ℕ) (known : Known ℚ) (cert : Certificate (List ℚ)) (basis : Option (List Status))
         (pivots : ℕ) →
