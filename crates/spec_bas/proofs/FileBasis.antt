@@ -15,6 +15,7 @@ use Rattle.spec_bas.proofs.MarkSteps.{step_keeps, step_fits}
 use Rattle.spec_bas.proofs.Files.{gives_spells, spells_gives}
 
 module _ (m : Model) (f : Form) (size : HasSizeOf m f) where
+  -- where what was read so far gives a basis of the form, a basis that further lines give is one of the form
   judged_fits : (lines : List (Line (List ℕ))) (n : ℕ) (s : State) (b : List Status) → IsMarking f s →
       judge m f s n lines ≡ Spelled b → IsBasisOf f b
   judged_fits [] n s b g h = cc
@@ -28,17 +29,21 @@ module _ (m : Model) (f : Form) (size : HasSizeOf m f) where
           let z : c ≡ b = cc in subst (IsBasisOf f) z (step_fits m f size s g line c e)
       by (Err code) e h rest = cc
 
+  -- a basis that lines spell is one of the form
   pub spelled_fits : (lines : List (Line (List ℕ))) (b : List Status) → SpellsBasis m f lines b → IsBasisOf f b
   spelled_fits lines b w = judged_fits lines 1 (start f) b (start_marks f) (spells_gives m f size lines b w)
 
+  -- two bases that one verdict spells are the same
   same_spelled : (v : Verdict) (a b : List Status) → v ≡ Spelled a → v ≡ Spelled b → a ≡ b
   same_spelled v a b p q = cc
 
+  -- two bases that the same lines spell are the same
   pub one_basis : (lines : List (Line (List ℕ))) (a b : List Status) → SpellsBasis m f lines a → SpellsBasis m f
       lines b → a ≡ b
   one_basis lines a b v w =
       same_spelled (judge m f (start f) 1 lines) a b (spells_gives m f size lines a v) (spells_gives m f size lines b w)
 
+  -- lines spell a basis, or have a first wrong line with a fault
   pub judged : (lines : List (Line (List ℕ))) →
       ((b : List Status) × SpellsBasis m f lines b) ⊎ ((n : ℕ) × (code : BasCode) × Refuses m f lines n code)
   judged lines = by (judge m f (start f) 1 lines) refl
@@ -48,9 +53,11 @@ module _ (m : Model) (f : Form) (size : HasSizeOf m f) where
       by (Spelled b) e = inl (b, gives_spells m f size lines b e)
       by (Refused n code) e = inr (n, code, e)
 
+  -- no verdict is both a basis and a fault
   not_two : (v : Verdict) (b : List Status) (n : ℕ) (code : BasCode) → v ≡ Spelled b → v ≡ Refused n code → ⊥
   not_two v b n code p q = cc
 
+  -- lines that spell a basis are not refused
   pub not_both : (lines : List (Line (List ℕ))) (b : List Status) (n : ℕ) (code : BasCode) → SpellsBasis m f lines b →
       Refuses m f lines n code → ⊥
   not_both lines b n code w r =

@@ -30,7 +30,8 @@ use Rattle.spec_bas.specs.Fits.{HasSizeOf, IsMarking}
 use Rattle.spec_model.proofs.NamePlaces.{row_inside, column_inside}
 use Rattle.spec_bas.proofs.Marks.{lower_can, lower_out, upper_can, upper_out, one_marks, pair_marks}
 
--- a pair is taken
+-- The names are those of a column j and a row i, neither of which has a status from a card in state s. State t is s
+-- with column j basic and row i's logical at the status that `status` gives for its number.
 pub record TakesPair (m : Model) (f : Form) (s : State) (column row : Name) (status : ℕ → Status) (t : State) : Type
     0 where
   pub j : ℕ
@@ -72,7 +73,8 @@ pair_taken m f s column row status t h = by (column_place m column) (row_place m
     by (Some j) None a b e = cc
     by (Some j) (Some i) a b e = free j i a b (is_marked s j) (is_marked s (f.cols + i)) refl refl e
 
--- a column's card is taken
+-- The name is that of a column j, which has no status from a card in state s. State t is s with the status that
+-- `status` gives for j.
 pub record TakesColumn (m : Model) (s : State) (column : Name) (status : ℕ → Status) (t : State) : Type 0 where
   pub j : ℕ
   pub is_column : column_place m column ≡ Some j
@@ -97,7 +99,8 @@ usual_taken m f s column t h = by (column_place m column) refl h
     by None a e = cc
     by (Some j) a e = free j a (is_marked s j) refl e
 
--- and a column at its upper bound has one
+-- The name is that of a column with an upper bound and no status from a card in state s. State t is s with this column
+-- at that bound.
 pub record TakesUpper (m : Model) (f : Form) (s : State) (column : Name) (t : State) : Type 0 where
   pub takes : TakesColumn m s column (λ _. AtUpper) t
   pub bound : (u : ℚ) × (form_upper f takes.j ≡ Some u)
@@ -124,6 +127,8 @@ upper_taken m f s column t h = by (column_place m column) refl h
     by (Some j) a e = free j a (is_marked s j) (form_upper f j) refl refl e
 
 module _ (m : Model) (f : Form) (size : HasSizeOf m f) (s : State) (g : IsMarking f s) where
+  -- an accepted card XU or XL leaves a state that gives a basis of the form, where the row's new status is possible and
+  -- not basic
   pair_keeps : (column row : Name) (status : ℕ → Status) (t : State) →
       ((k : ℕ) → CanStand (status k) (form_lower f k) (form_upper f k)) → ((k : ℕ) → is_basic (status k) ≡ false) →
       pair_step m f s column row status ≡ Ok t → IsMarking f t
@@ -135,6 +140,8 @@ module _ (m : Model) (f : Form) (size : HasSizeOf m f) (s : State) (g : IsMarkin
       (omega (arith, row_inside m row p.i p.is_row, size.rows))
       p.column_free p.row_free (can (f.cols + p.i)) (out (f.cols + p.i)))
 
+  -- an accepted card of a column alone leaves a state that gives a basis of the form, where the column's new status is
+  -- possible and not basic
   column_keeps : (column : Name) (status : ℕ → Status) (t : State) → (p : TakesColumn m s column status t) →
       CanStand (status p.j) (form_lower f p.j) (form_upper f p.j) → is_basic (status p.j) ≡ false → IsMarking f t
   column_keeps column status t p can out =
@@ -142,6 +149,7 @@ module _ (m : Model) (f : Form) (size : HasSizeOf m f) (s : State) (g : IsMarkin
       (one_marks f s p.j (status p.j) g (omega (arith, column_inside m column p.j p.is_column, size.cols))
       p.column_free can out)
 
+  -- an accepted data card leaves a state that gives a basis of the form
   pub card_keeps : (card : ExactCard) (t : State) → card_step m f s card ≡ Ok t → IsMarking f t
   card_keeps (Xu column row) t h =
       pair_keeps column row (upper_first f) t (λ k. upper_can (form_lower f k) (form_upper f k))
@@ -157,20 +165,24 @@ module _ (m : Model) (f : Form) (size : HasSizeOf m f) (s : State) (g : IsMarkin
       (lower_out (form_lower f p.j) (form_upper f p.j))
 
   -- ---- whole lines
+  -- the state with a card read already gives a basis of the form too
   begun_keeps : IsMarking f (record s { begun = true })
   unfolding marked_basis
   begun_keeps = record { all = g.all; fits = g.fits }
 
+  -- an accepted NAME leaves a state that gives a basis of the form
   named_keeps : (c : Bool) (t : State) →
       more (must (not c) code.Section >>= λ _. Ok (record s { begun = true })) ≡ Ok (More t) → IsMarking f t
   named_keeps false t h = let e : record s { begun = true } ≡ t = cc in subst (IsMarking f) e begun_keeps
   named_keeps true t h = cc
 
+  -- where a line with a data card goes on, its state gives a basis of the form
   said_keeps : (card : ExactCard) (c : Check State) (t : State) → card_step m f s card ≡ c →
       more c ≡ Ok (More t) → IsMarking f t
   said_keeps card (Ok u) t a h = card_keeps card t (let e : u ≡ t = cc in a ∙ ap Ok e)
   said_keeps card (Err code) t a h = cc
 
+  -- where a line goes on, whatever it is read as, its state gives a basis of the form
   on_keeps : (r : ExactReading) (t : State) → on_reading m f s r ≡ Ok (More t) → IsMarking f t
   on_keeps Skipped t h = let e : s ≡ t = cc in subst (IsMarking f) e g
   on_keeps Named t h = named_keeps s.begun t h
@@ -178,15 +190,18 @@ module _ (m : Model) (f : Form) (size : HasSizeOf m f) (s : State) (g : IsMarkin
   on_keeps (Says card) t h = said_keeps card (card_step m f s card) t refl h
   on_keeps (Wrong code) t h = cc
 
+  -- a line with a data card does not end the file
   said_not_done : (c : Check State) (basis : List Status) → more c ≡ Ok (Done basis) → ⊥
   said_not_done (Ok u) basis h = cc
   said_not_done (Err code) basis h = cc
 
+  -- a line NAME does not end the file
   named_not_done : (c : Bool) (basis : List Status) →
       more (must (not c) code.Section >>= λ _. Ok (record s { begun = true })) ≡ Ok (Done basis) → ⊥
   named_not_done false basis h = cc
   named_not_done true basis h = cc
 
+  -- where a line ends the file, whatever it is read as, the file's basis is one of the form
   on_fits : (r : ExactReading) (basis : List Status) → on_reading m f s r ≡ Ok (Done basis) → IsBasisOf f basis
   on_fits Skipped basis h = cc
   on_fits Named basis h = absurd (named_not_done s.begun basis h)
@@ -194,11 +209,12 @@ module _ (m : Model) (f : Form) (size : HasSizeOf m f) (s : State) (g : IsMarkin
   on_fits (Says card) basis h = absurd (said_not_done (card_step m f s card) basis h)
   on_fits (Wrong code) basis h = cc
 
-  -- the marks stay so, and what a file gives is a basis of the form
+  -- where a line goes on to a further state, that state gives a basis of the form too
   pub step_keeps : (line : Line (List ℕ)) (t : State) → step m f s line ≡ Ok (More t) → IsMarking f t
   unfolding step
   step_keeps line t h = on_keeps (reading_of line) t h
 
+  -- where a line ends the file, the file's basis is one of the form
   pub step_fits : (line : Line (List ℕ)) (basis : List Status) → step m f s line ≡ Ok (Done basis) → IsBasisOf f basis
   unfolding step
   step_fits line basis h = on_fits (reading_of line) basis h

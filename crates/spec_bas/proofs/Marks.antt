@@ -1,7 +1,7 @@
 -- What was read of a file gives a basis of the form, also with one more mark of a column or of a pair.
 --
--- `lower_can`: whatever its bounds are, a column can stand where it does without a card.
--- `lower_out`: where a column stands without a card, it is not basic.
+-- `lower_can`: whatever its bounds are, a column can stand at its lower one, else at its upper one, else at 0.
+-- `lower_out`: a column at its lower bound, else at its upper one, else at 0, is not basic.
 -- `upper_can`: whatever its bounds are, a column can stand at its upper bound, or at what it has in its place.
 -- `upper_out`: a column at its upper bound, or at what it has in its place, is not basic.
 use Rattle.std.proofs.Common.{◌≡◌, ◌≢◌, ℕ, zero, suc, ◌+◌, ◌<◌, ◌≤◌, ◌⊎◌, inl, inr, Bool, true, false}
@@ -77,24 +77,30 @@ basics_one b c k (suc n) l out in' h =
 -- ---- the basis that marks give
 
 module _ (f : Form) where
+  -- the status of column k by the marks of a state: the one that a card gave it, else the usual one
   abbrev pub status_at : State → ℕ → Status
   status_at s k = marked_status f k (get_or s.marks k None)
 
+  -- the basis that the marks of a state give has for each column of the form the column's status by the marks
   pub marked_at : (s : State) (k : ℕ) → k < f.cols + f.rows → basis_at (marked_basis f s) k ≡ status_at s k
   unfolding marked_basis
   marked_at s k h = get_or-made (f.cols + f.rows) (status_at s) k Basic h
 
+  -- the basis that marks give has as many statuses as the form has columns, structural and logical
   pub marked_length : (s : State) → length (marked_basis f s) ≡ f.cols + f.rows
   unfolding marked_basis
   marked_length s = length-made (f.cols + f.rows) (status_at s)
 
   -- ---- usual statuses
+  -- the usual status of a structural column is at its lower bound, else at its upper one, else at 0
   pub usual_column : (k : ℕ) → k < f.cols → usual_status f k ≡ lower_first f k
   usual_column k h = rw (lt-ltb k f.cols h) refl
 
+  -- the usual status of a logical column is basic
   pub usual_row : (k : ℕ) → f.cols ≤ k → usual_status f k ≡ Basic
   usual_row k h = rw (le-ltb k f.cols h) refl
 
+  -- a column can have its usual status, whatever its bounds are
   usual_can : (k : ℕ) → CanStand (usual_status f k) (form_lower f k) (form_upper f k)
   usual_can k = by (ltb k f.cols)
     where
@@ -103,13 +109,15 @@ module _ (f : Form) where
       by false = tt
 
   -- ---- one more mark
+  -- a card that gives column k a status changes that of no other column
   pub mark_other : (s : State) (k i : ℕ) (status : Status) → i ≢ k → status_at (mark k status s) i ≡ status_at s i
   mark_other s k i status ne = ap (marked_status f i) (get_or-set_other s.marks k i (Some status) None ne)
 
+  -- behind a card that gives column k a status, column k has it
   pub mark_same : (s : State) (k : ℕ) (status : Status) → k < length s.marks → status_at (mark k status s) k ≡ status
   mark_same s k status h = ap (marked_status f k) (get_or-set_same s.marks k (Some status) None h)
 
-  -- a column that had no mark
+  -- a column without a status from a card has the usual one
   free_at : (s : State) (k : ℕ) → is_marked s k ≡ false → status_at s k ≡ usual_status f k
   free_at s k h = by (get_or s.marks k None) h
     where
@@ -117,18 +125,21 @@ module _ (f : Form) where
       by None e = refl
       by (Some status) e = cc
 
+  -- a column without a status from a card is still without one where a card gives another column a status
   free_other : (s : State) (k i : ℕ) (status : Status) → i ≢ k → is_marked s i ≡ false →
       is_marked (mark k status s) i ≡ false
   free_other s k i status ne h = ap is_some (get_or-set_other s.marks k i (Some status) None ne) ∙ h
 
+  -- giving a column a status by a card leaves the number of marks as it was
   pub mark_length : (s : State) (k : ℕ) (status : Status) → length (mark k status s).marks ≡ length s.marks
   mark_length s k status = length-set s.marks k (Some status)
 
-  -- the statuses can be, off the column and at it
+  -- in the basis that a state gives, each column has a status that its bounds allow
   abbrev AllStand : State → Type 0
   AllStand s = (i : ℕ) → i < f.cols + f.rows → CanStand (basis_at (marked_basis f s) i) (form_lower f i)
       (form_upper f i)
 
+  -- where each column can have its status, and column k the new one, it is so after a card gives column k the new one
   mark_stand : (s : State) (k : ℕ) (status : Status) → length s.marks ≡ f.cols + f.rows → AllStand s → k < f.cols +
       f.rows →
       CanStand status (form_lower f k) (form_upper f k) → AllStand (mark k status s)
@@ -147,26 +158,29 @@ module _ (f : Form) where
           subst (λ x. CanStand x (form_lower f i) (form_upper f i))
           (sym (mark_other s k i status ne ∙ sym (marked_at s i h))) (all i h)
 
+  -- how many columns are basic in the basis that the marks of a state give
   abbrev basics : State → ℕ
   basics s = basics_below (marked_basis f s) (f.cols + f.rows)
 
+  -- a card that gives column k a status changes of no other column whether it is basic
   basic_other : (s : State) (k : ℕ) (status : Status) (i : ℕ) → i < f.cols + f.rows → i ≢ k →
       is_basic (basis_at (marked_basis f (mark k status s)) i) ≡ is_basic (basis_at (marked_basis f s) i)
   basic_other s k status i h ne =
       ap is_basic (marked_at (mark k status s) i h ∙ mark_other s k i status ne ∙ sym (marked_at s i h))
 
+  -- behind a card that gives column k a status, column k is basic exactly if that status is basic
   basic_at_mark : (s : State) (k : ℕ) (status : Status) → k < f.cols + f.rows → k < length s.marks →
       is_basic (basis_at (marked_basis f (mark k status s)) k) ≡ is_basic status
   basic_at_mark s k status h l = ap is_basic (marked_at (mark k status s) k h ∙ mark_same s k status l)
 
-  -- a column that is basic from now on
+  -- a card that makes a column basic that was not adds one to the number of basic columns
   basics_up : (s : State) (k : ℕ) → k < f.cols + f.rows → k < length s.marks → is_basic (status_at s k) ≡ false →
       basics (mark k Basic s) ≡ basics s + 1
   basics_up s k h l out =
       basics_one (marked_basis f s) (marked_basis f (mark k Basic s)) k (f.cols + f.rows) h
       (ap is_basic (marked_at s k h) ∙ out) (basic_at_mark s k Basic h l) (basic_other s k Basic)
 
-  -- a column that is basic no more
+  -- a card that gives a basic column a status that is not basic takes one from the number of basic columns
   basics_down : (s : State) (k : ℕ) (status : Status) → k < f.cols + f.rows → k < length s.marks →
       is_basic (status_at s k) ≡ true → is_basic status ≡ false → basics s ≡ basics (mark k status s) + 1
   basics_down s k status h l was out =
@@ -174,7 +188,7 @@ module _ (f : Form) where
       (basic_at_mark s k status h l ∙ out) (ap is_basic (marked_at s k h) ∙ was)
       (λ i p ne. sym (basic_other s k status i p ne))
 
-  -- a column that is not basic, neither before nor after
+  -- a card for a column that is basic neither before nor after leaves the number of basic columns as it was
   basics_stay : (s : State) (k : ℕ) (status : Status) → k < length s.marks → is_basic (status_at s k) ≡ false →
       is_basic status ≡ false → basics (mark k status s) ≡ basics s
   basics_stay s k status l was out =
@@ -190,15 +204,19 @@ module _ (f : Form) where
       by i p (inr ne) = basic_other s k status i p ne
 
   -- ---- no mark at all
+  -- before the first line each column has its usual status
   pub start_none : (k : ℕ) → k < f.cols + f.rows → status_at (start f) k ≡ usual_status f k
   start_none k h = ap (marked_status f k) (get_or-replicate (f.cols + f.rows) k None None h)
 
+  -- the usual status of a structural column is not basic
   column_out : (k : ℕ) → k < f.cols → is_basic (usual_status f k) ≡ false
   column_out k h = ap is_basic (usual_column k h) ∙ lower_out (form_lower f k) (form_upper f k)
 
+  -- the usual status of a logical column is basic
   row_in : (k : ℕ) → f.cols ≤ k → is_basic (usual_status f k) ≡ true
   row_in k h = ap is_basic (usual_row k h)
 
+  -- before the first line no structural column is basic
   start_columns : (n : ℕ) → n ≤ f.cols → basics_below (marked_basis f (start f)) n ≡ 0
   start_columns zero h = refl
   start_columns (suc n) h =
@@ -207,6 +225,7 @@ module _ (f : Form) where
       (omega arith) in
       rw (rest, here) refl
 
+  -- before the first line the logical columns of the first i rows are i basic columns
   start_rows : (i : ℕ) → i ≤ f.rows → basics_below (marked_basis f (start f)) (f.cols + i) ≡ i
   start_rows zero h = start_columns (f.cols + 0) (omega arith)
   start_rows (suc i) h =
@@ -216,6 +235,7 @@ module _ (f : Form) where
       (omega arith)) ∙ row_in (f.cols + i) (omega arith) in
       ap (basics_below (marked_basis f (start f))) z ∙ rw (rest, here) (omega arith)
 
+  -- before the first line the state gives a basis of the form
   pub start_marks : IsMarking f (start f)
   start_marks = record {
     all = length-replicate (f.cols + f.rows) None;
@@ -228,7 +248,8 @@ module _ (f : Form) where
   }
 
   -- ---- the steps of cards
-  -- a status that is not basic, at a column that had no mark and is not basic
+  -- Giving a structural column without a status from a card one that it can have, and that is not basic, leaves a state
+  -- that gives a basis of the form.
   pub one_marks : (s : State) (k : ℕ) (status : Status) → IsMarking f s → k < f.cols → is_marked s k ≡ false →
       CanStand status (form_lower f k) (form_upper f k) → is_basic status ≡ false → IsMarking f (mark k status s)
   one_marks s k status g h free can out = record {
@@ -242,7 +263,8 @@ module _ (f : Form) where
     };
   }
 
-  -- a column that is basic from now on, and a row that is so no more
+  -- Making a structural column basic and giving a row's logical a status that is not basic, where neither has one from
+  -- a card, leaves a state that gives a basis of the form.
   pub pair_marks : (s : State) (j i : ℕ) (status : Status) → IsMarking f s → j < f.cols → i < f.rows →
       is_marked s j ≡ false → is_marked s (f.cols + i) ≡ false →
       CanStand status (form_lower f (f.cols + i)) (form_upper f (f.cols + i)) → is_basic status ≡ false →

@@ -51,7 +51,7 @@ bound_of AtLower l u e c = cc
 bound_of AtUpper l u e c = c
 bound_of AtZero l u e c = cc
 
--- a column that is neither basic nor at its upper bound has the first status for its bounds
+-- a status that a column's bounds allow, neither basic nor at the upper bound, is the first status for these bounds
 usual_is : (s : Status) (l u : Option ℚ) → is_basic s ≡ false → is_at_upper s ≡ false → CanStand s l u →
     s ≡ first_status l u
 usual_is Basic l u b a c = cc
@@ -76,6 +76,7 @@ row_paired AtUpper column row = refl
 row_paired AtZero column row = refl
 
 module _ (m : Model) (f : Form) (basis : List Status) where
+  -- the cards of as many columns as rows name these columns in their order
   columns_paired : (bs os : List ℕ) → length bs ≡ length os →
       columns_on (map (pair_card m f basis) (zip bs os)) ≡ map (column_name m) bs
   columns_paired [] os e = refl
@@ -85,6 +86,7 @@ module _ (m : Model) (f : Form) (basis : List Status) where
       (column_paired (basis_at basis (f.cols + o)) (column_name m b) (row_name m o))
       ∙ ap (λ cs. column_name m b ∷ cs) (columns_paired bs os (omega arith))
 
+  -- the cards of as many columns as rows name these rows in their order
   rows_paired : (bs os : List ℕ) → length bs ≡ length os →
       rows_on (map (pair_card m f basis) (zip bs os)) ≡ map (row_name m) os
   rows_paired [] [] e = refl
@@ -109,15 +111,19 @@ rows_upper m (u ∷ us) = rows_upper m us
 
 module _ (m : Model) (f : Form) (size : HasSizeOf m f) (kept : IsModel m) (basis : List Status)
     (fits : IsBasisOf f basis) where
+  -- the numbers of the basic columns of the basis
   abbrev bs : List ℕ
   bs = basic_columns f basis
 
+  -- the numbers of the rows whose logical columns are not basic
   abbrev os : List ℕ
   os = other_rows f basis
 
+  -- the numbers of the columns at their upper bounds
   abbrev us : List ℕ
   us = upper_columns f basis
 
+  -- the basic columns are as many as the rows whose logical columns are not basic
   as_many : length bs ≡ length os
   as_many =
       let a = basics_chosen basis f.cols in
@@ -125,17 +131,21 @@ module _ (m : Model) (f : Form) (size : HasSizeOf m f) (kept : IsModel m) (basis
       let c = fits.count in
       omega arith
 
+  -- the name of column j has the place j
   column_stands : (j : ℕ) → j < f.cols → column_place m (column_name m j) ≡ Some j
   column_stands j l = column_at m kept j (omega (arith, l, size.cols))
 
+  -- the name of row i has the place i
   row_stands : (i : ℕ) → i < f.rows → row_place m (row_name m i) ≡ Some i
   row_stands i l = row_at m kept i (omega (arith, l, size.rows))
 
+  -- each column of the form can have its status in the basis
   can : (k : ℕ) → k < f.cols + f.rows → CanStand (basis_at basis k) (form_lower f k) (form_upper f k)
   can = fits.stand
 
   -- ---- the names
 
+  -- the cards of a basis name its basic columns and then those at their upper bounds
   columns_are : columns_on (cards_of m f basis) ≡ map (column_name m) (bs ++ us)
   unfolding cards_of
   columns_are =
@@ -144,6 +154,7 @@ module _ (m : Model) (f : Form) (size : HasSizeOf m f) (kept : IsModel m) (basis
       ∙ ap (λ cs. map (column_name m) bs ++ cs) (columns_upper m us)
       ∙ sym (map-append (column_name m) bs us)
 
+  -- the cards of a basis name the rows whose logical columns are not basic
   rows_are : rows_on (cards_of m f basis) ≡ map (row_name m) os
   unfolding cards_of
   rows_are =
@@ -152,12 +163,14 @@ module _ (m : Model) (f : Form) (size : HasSizeOf m f) (kept : IsModel m) (basis
       ∙ ap (λ cs. map (row_name m) os ++ cs) (rows_upper m us)
       ∙ append-nil (map (row_name m) os)
 
+  -- the numbers of the named columns are below the number of the form's structural columns
   low_columns : All (λ j. j < f.cols) (bs ++ us)
   low_columns =
       All-append (λ j. j < f.cols) bs us
       (chosen_all (λ j. is_basic (basis_at basis j)) (λ j. j < f.cols) f.cols (λ k l e. l))
       (chosen_all (λ j. is_at_upper (basis_at basis j)) (λ j. j < f.cols) f.cols (λ k l e. l))
 
+  -- the numbers of the named rows are below the number of the form's rows
   low_rows : All (λ i. i < f.rows) os
   low_rows =
       chosen_all (λ i. not (is_basic (basis_at basis (f.cols + i)))) (λ i. i < f.rows) f.rows (λ k l e. l)
@@ -174,6 +187,7 @@ module _ (m : Model) (f : Form) (size : HasSizeOf m f) (kept : IsModel m) (basis
           let c : true ≡ false = sym e ∙ b ∙ a in
           cc
 
+  -- the cards of a basis name no column twice
   columns_once : AllPairs (λ x y. x ≢ y) (columns_on (cards_of m f basis))
   columns_once =
       subst (AllPairs (λ x y. x ≢ y)) (sym columns_are)
@@ -183,6 +197,7 @@ module _ (m : Model) (f : Form) (size : HasSizeOf m f) (kept : IsModel m) (basis
       (chosen_once (λ j. is_basic (basis_at basis j)) f.cols)
       (chosen_once (λ j. is_at_upper (basis_at basis j)) f.cols) apart)))
 
+  -- the cards of a basis name no row twice
   rows_once : AllPairs (λ x y. x ≢ y) (rows_on (cards_of m f basis))
   rows_once =
       subst (AllPairs (λ x y. x ≢ y)) (sym rows_are)
@@ -192,6 +207,7 @@ module _ (m : Model) (f : Form) (size : HasSizeOf m f) (kept : IsModel m) (basis
 
   -- ---- pairs and columns at their upper bounds
 
+  -- the card of a basic column and a row that is not basic says what is so in the basis, by the row's status
   pair_means_by : (j i : ℕ) → j < f.cols → is_basic (basis_at basis j) ≡ true → i < f.rows → (s : Status) →
       basis_at basis (f.cols + i) ≡ s → CanStand s (form_lower f (f.cols + i)) (form_upper f (f.cols + i)) →
       is_basic s ≡ false → Means m f basis (paired s (column_name m j) (row_name m i))
@@ -221,6 +237,7 @@ module _ (m : Model) (f : Form) (size : HasSizeOf m f) (kept : IsModel m) (basis
     stands = e ∙ rw (c.0, c.1) refl;
   }
 
+  -- each card of a basic column and a row says what is so in the basis
   pairs_mean : All (Means m f basis) (map (pair_card m f basis) (zip bs os))
   pairs_mean =
       All-map (Means m f basis) (pair_card m f basis) (zip bs os)
@@ -239,6 +256,7 @@ module _ (m : Model) (f : Form) (size : HasSizeOf m f) (kept : IsModel m) (basis
       IsOfOther : ℕ → Type 0
       IsOfOther i = (i < f.rows) × (is_basic (basis_at basis (f.cols + i)) ≡ false)
 
+  -- each card of a column at its upper bound says what is so in the basis
   uppers_mean : All (Means m f basis) (map (upper_card m) us)
   uppers_mean =
       All-map (Means m f basis) (upper_card m) us
@@ -250,6 +268,7 @@ module _ (m : Model) (f : Form) (size : HasSizeOf m f) (kept : IsModel m) (basis
         stands = upper_is (basis_at basis j) e;
       }))
 
+  -- each card of a basis says what is so in it
   all_mean : All (Means m f basis) (cards_of m f basis)
   unfolding cards_of
   all_mean =
@@ -258,6 +277,7 @@ module _ (m : Model) (f : Form) (size : HasSizeOf m f) (kept : IsModel m) (basis
 
   -- ---- the others
 
+  -- a column that the cards of a basis do not name is at its lower bound, else at its upper one, else at 0
   other_columns : (j : ℕ) → j < f.cols → HasNoCard (column_place m) (columns_on (cards_of m f basis)) j →
       basis_at basis j ≡ lower_first f j
   other_columns j l h =
@@ -272,6 +292,7 @@ module _ (m : Model) (f : Form) (size : HasSizeOf m f) (kept : IsModel m) (basis
           (all_named (λ name. column_place m name ≢ Some j) (column_name m) (bs ++ us)
           (subst (All (λ name. column_place m name ≢ Some j)) columns_are h))
 
+  -- the logical of a row that the cards of a basis do not name is basic
   unnamed_rows : (i : ℕ) → i < f.rows → HasNoCard (row_place m) (rows_on (cards_of m f basis)) i →
       basis_at basis (f.cols + i) ≡ Basic
   unnamed_rows i l h =
@@ -284,6 +305,7 @@ module _ (m : Model) (f : Form) (size : HasSizeOf m f) (kept : IsModel m) (basis
           (all_named (λ name. row_place m name ≢ Some i) (row_name m) os
           (subst (All (λ name. row_place m name ≢ Some i)) rows_are h))
 
+  -- the cards that a basis is written as spell that basis
   pub cards_mean : AreCardsOf m f (cards_of m f basis) basis
   cards_mean = record {
     columns_once = columns_once;

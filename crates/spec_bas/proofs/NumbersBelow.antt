@@ -5,8 +5,8 @@
 -- `all_named`: what holds of all images of a list under a function holds of the image of each item.
 -- `all_zip`: what holds of all items of two lists holds of the two parts of each pair of them.
 -- `basics_chosen`: the chosen basic columns below n are as many as the basic columns that are counted below n.
--- `others_chosen`: the basic columns below c + n and the nonbasic ones of the last n are the basic ones below c, and n
---   more.
+-- `others_chosen`: the basic columns below c + n and the nonbasic ones of the last n together are n more than the basic
+--   ones below c.
 use Rattle.std.proofs.Common.{◌≡◌, ◌≢◌, ℕ, zero, suc, ◌+◌, ◌<◌, ◌⊎◌, inl, inr, Bool, true, false, not, cond}
 use Rattle.std.proofs.Common.{List, [], ◌∷◌, ◌++◌, length, map, get_or, All, refl, sym, ap, ◌∙◌, subst, arith}
 use Rattle.std.proofs.Common.{length-append}
@@ -48,10 +48,11 @@ all_zip P Q (x ∷ xs) (y ∷ ys) h k =
 -- ---- what is chosen
 
 module _ (test : ℕ → Bool) where
+  -- the numbers below n + 1 that pass a test are those below n, and n behind them if it passes
   pub chosen_more : (n : ℕ) → chosen (suc n) test ≡ chosen n test ++ cond (test n) (n ∷ []) []
   chosen_more n = filter-append test (made n (λ k. k)) (n ∷ [])
 
-  -- it passes, and is below the bound
+  -- what holds of each number below n that passes a test holds of all that are chosen below n
   pub chosen_all : (P : ℕ → Type 0) (n : ℕ) → ((k : ℕ) → k < n → test k ≡ true → P k) → All P (chosen n test)
   chosen_all P zero h = All-nil P
   chosen_all P (suc n) h =
@@ -63,7 +64,7 @@ module _ (test : ℕ → Bool) where
       last true e = All-cons P n [] (h n (omega arith) e) (All-nil P)
       last false e = All-nil P
 
-  -- what is not there does not pass
+  -- a number below n that is not among those chosen below n does not pass the test
   pub chosen_missing : (n j : ℕ) → All (λ i. i ≢ j) (chosen n test) → j < n → test j ≡ false
   chosen_missing zero j h l = absurd (omega arith)
   chosen_missing (suc n) j h l =
@@ -83,6 +84,7 @@ module _ (test : ℕ → Bool) where
           ∙ last (test n) (all_back (λ i. i ≢ j) (chosen n test) (cond (test n) (n ∷ []) []) parts) e
       by before (inr ne) = before (omega arith)
 
+  -- no number stands twice among those below n that pass a test
   pub chosen_once : (n : ℕ) → AllPairs (λ i k. i ≢ k) (chosen n test)
   chosen_once n = AllPairs-filter (λ i k. i ≢ k) test (made n (λ k. k)) apart
     where
@@ -93,6 +95,7 @@ module _ (test : ℕ → Bool) where
           let b : get_or (made n (λ k. k)) k d ≡ k = get_or-made n (λ k. k) k d (omega arith) in
           omega arith
 
+  -- the numbers below n + 1 that pass a test are as many as those below n, and one more if n passes
   pub length-chosen : (n : ℕ) → length (chosen (suc n) test) ≡ length (chosen n test) + cond (test n) 1 0
   length-chosen n =
       ap length (chosen_more n) ∙ length-append (chosen n test) (cond (test n) (n ∷ []) [])

@@ -28,13 +28,14 @@ module _ (f : Form) (place : Name → Option ℕ) (at : ℕ → ℕ) (n : ℕ)
     (inside : (name : Name) (i : ℕ) → place name ≡ Some i → i < n)
     (one : (a b : Name) (i : ℕ) → place a ≡ Some i → place b ≡ Some i → a ≡ b)
     (apart : (i j : ℕ) → at i ≡ at j → i ≡ j) where
-  -- the names have no marks yet, and what has no name here stands in the basis as the marks so far have it
+  -- The names are distinct, and none has a status from a card in s. Each column or row of this kind that none of them
+  -- names has in the basis the status that s gives it.
   pub record Part (s : State) (names : List Name) (b : List Status) : Type 0 where
     pub once : AllPairs (λ x y. x ≢ y) names
     pub free : All (λ name. (i : ℕ) → place name ≡ Some i → is_marked s (at i) ≡ false) names
     pub others : (i : ℕ) → i < n → HasNoCard place names i → basis_at b (at i) ≡ status_of f s (at i)
 
-  -- a mark of the other kind
+  -- what holds of names of one kind after a card gives another kind's column a status held before it
   pub part_aside : (s : State) (k : ℕ) (status : Status) (names : List Name) (b : List Status) →
       ((i : ℕ) → i < n → at i ≢ k) → Part (mark k status s) names b → Part s names b
   part_aside s k status names b off p = record {
@@ -43,6 +44,7 @@ module _ (f : Form) (place : Name → Option ℕ) (at : ℕ → ℕ) (n : ℕ)
     others = λ i l h. p.others i l h ∙ mark_other f s k (at i) status (off i l);
   }
 
+  -- what holds of names of one kind holds after a card gives another kind's column a status too
   pub part_beside : (s : State) (k : ℕ) (status : Status) (names : List Name) (b : List Status) →
       ((i : ℕ) → i < n → at i ≢ k) → Part s names b → Part (mark k status s) names b
   part_beside s k status names b off p = record {
@@ -54,20 +56,25 @@ module _ (f : Form) (place : Name → Option ℕ) (at : ℕ → ℕ) (n : ℕ)
   -- a mark of this kind
   module _ (s : State) (name : Name) (i : ℕ) (status : Status) (names : List Name) (b : List Status)
       (is : place name ≡ Some i) (long : at i < length s.marks) where
+    -- the state s after a card gives the column or row of number i this status
     abbrev t : State
     t = mark (at i) status s
 
+    -- another number of this kind has another column of the form
     off : (k : ℕ) → k ≢ i → at k ≢ at i
     off k ne e = ne (apart k i e)
 
     module _ (p : Part t names b) where
-      -- no other name has it
+      -- none of the names in the state after the card is that of number i
       no_other : HasNoCard place names i
       no_other q d l e = false≢true (sym (p.free q d l i e) ∙ marked_same s (at i) status long)
 
+      -- the column or row to which a card gave a status has it in the basis, where what a part asks holds of some names
+      -- after that card
       pub part_stands : basis_at b (at i) ≡ status
       part_stands = p.others i (inside name i is) no_other ∙ mark_same f s (at i) status long
 
+      -- a column or row without a status after the card had none before it
       grown_free : (k : ℕ) → is_marked t (at k) ≡ false → is_marked s (at k) ≡ false
       grown_free k h = by (cases_eq k i)
         where
@@ -75,6 +82,8 @@ module _ (f : Form) (place : Name → Option ℕ) (at : ℕ → ℕ) (n : ℕ)
           by (inl e) = absurd (false≢true (sym h ∙ ap (λ q. is_marked t (at q)) e ∙ marked_same s (at i) status long))
           by (inr ne) = sym (marked_other s (at i) (at k) status (off k ne)) ∙ h
 
+      -- where what a part asks holds of some names after a card for a column or row that had no status from a card, it
+      -- held of these names and the card's before it
       pub part_more : is_marked s (at i) ≡ false → Part s (name ∷ names) b
       part_more free = record {
         once = AllPairs-cons (λ x y. x ≢ y) name names (λ q d l e. no_other q d l (ap place (sym e) ∙ is)) p.once;
@@ -90,10 +99,13 @@ module _ (f : Form) (place : Name → Option ℕ) (at : ℕ → ℕ) (n : ℕ)
           same_place k e = cc
 
     module _ (p : Part s (name ∷ names) b) (stands : basis_at b (at i) ≡ status) where
+      -- the first of the names has no status from a card yet
       pub part_free : is_marked s (at i) ≡ false
       part_free =
           All-head (λ name. (k : ℕ) → place name ≡ Some k → is_marked s (at k) ≡ false) name names p.free i is
 
+      -- where what a part asks holds of a name and more names, and the basis has the status of the first name's card,
+      -- it holds of the more names after that card
       pub part_less : Part t names b
       part_less = record {
         once = AllPairs-tail (λ x y. x ≢ y) name names p.once;

@@ -25,24 +25,30 @@ use Rattle.spec_bas.proofs.MarkSteps.{pair_taken, upper_taken, usual_taken}
 use Rattle.spec_bas.proofs.Parts.{Part, part_aside, part_beside, part_stands, part_more, part_free, part_less}
 use Rattle.spec_bas.proofs.Parts.{marked_other}
 
--- the cards lead from these marks to this basis
+-- the data cards are accepted one after the other from state s on, and the last state gives the basis b
 abbrev pub LeadTo : Model → Form → State → List ExactCard → List Status → Type 0
 LeadTo m f s [] b = b ≡ marked_basis f s
 LeadTo m f s (card ∷ cards) b = (t : State) × (card_step m f s card ≡ Ok t) × LeadTo m f t cards b
 
 module _ (m : Model) (f : Form) (size : HasSizeOf m f) where
+  -- these column names are distinct and have no status from a card in a state, and each column that they do not name
+  -- has in the basis the status that the state gives it
   abbrev pub Columns : State → List Name → List Status → Type 0
   Columns s names b =
       Part f (column_place m) (λ j. j) (width m) (column_inside m) (column_one m) (λ i j e. e) s names b
 
+  -- two rows with the same logical column are the same
   pub plus_apart : (i j : ℕ) → f.cols + i ≡ f.cols + j → i ≡ j
   plus_apart i j e = omega arith
 
+  -- these row names are distinct and have no status from a card in a state, and each row that they do not name has in
+  -- the basis the status that the state gives it
   abbrev pub Rows : State → List Name → List Status → Type 0
   Rows s names b =
       Part f (row_place m) (λ i. f.cols + i) (height m) (row_inside m) (row_one m) plus_apart s names b
 
-  -- what cards spell from marks on
+  -- The cards spell the basis b from state s: they name columns and rows that have no status yet, each once, what each
+  -- says is so in b, and all others have in b what s gives them.
   pub record From (s : State) (cards : List ExactCard) (b : List Status) : Type 0 where
     pub columns : Columns s (columns_on cards) b
     pub rows : Rows s (rows_on cards) b
@@ -53,16 +59,21 @@ module _ (m : Model) (f : Form) (size : HasSizeOf m f) where
   row_off : (k : ℕ) → f.cols ≤ k → (j : ℕ) → j < width m → j ≢ k
   row_off k h j l e = omega (arith, size.cols)
 
+  -- a structural column is no row's logical one
   column_off : (j : ℕ) → j < f.cols → (i : ℕ) → i < height m → f.cols + i ≢ j
   column_off j l i h e = omega arith
 
   -- ---- one card, from the marks after it to those before it
   module _ (s : State) (long : length s.marks ≡ f.cols + f.rows) (cards : List ExactCard) (b : List Status) where
+    -- a card XU or XL before some cards: what these ask of names holds with its column and its row among them, and what
+    -- it says is so in the basis
     record PairMore (column row : Name) (status : ℕ → Status) : Type 0 where
       pub columns : Columns s (column ∷ columns_on cards) b
       pub rows : Rows s (row ∷ rows_on cards) b
       pub means : IsPair m f b column row status
 
+    -- where cards spell a basis from behind an accepted card XU or XL, what they ask of names holds with that card
+    -- before them
     pair_more : (column row : Name) (status : ℕ → Status) (t : State) → pair_step m f s column row status ≡ Ok t →
         From t cards b → PairMore column row status
     pair_more column row status t h from =
@@ -103,11 +114,15 @@ module _ (m : Model) (f : Form) (size : HasSizeOf m f) where
           };
         }
 
+    -- a card UL or LL before some cards: what these ask of names holds with its column among them, and the column has
+    -- the status in the basis
     record ColumnMore (column : Name) (j : ℕ) (status : Status) : Type 0 where
       pub columns : Columns s (column ∷ columns_on cards) b
       pub rows : Rows s (rows_on cards) b
       pub stands : basis_at b j ≡ status
 
+    -- where cards spell a basis from behind a card that gives a column a status, what they ask of names holds with that
+    -- card before them
     column_more : (column : Name) (j : ℕ) (status : Status) → column_place m column ≡ Some j → is_marked s j ≡ false →
         From (mark j status s) cards b → ColumnMore column j status
     column_more column j status is free g =
@@ -124,6 +139,7 @@ module _ (m : Model) (f : Form) (size : HasSizeOf m f) where
               is (omega (arith, long, low)) g.columns;
         }
 
+    -- where what a card XU or XL and further cards ask holds, they spell the basis from the state before the card
     paired : (card : ExactCard) (column row : Name) (status : ℕ → Status) → PairMore column row status →
         ◌≡◌ {A = List Name} (columns_on (card ∷ cards)) (column ∷ columns_on cards) →
         ◌≡◌ {A = List Name} (rows_on (card ∷ cards)) (row ∷ rows_on cards) →
@@ -135,6 +151,7 @@ module _ (m : Model) (f : Form) (size : HasSizeOf m f) where
       all = from.all;
     }
 
+    -- where cards spell a basis from behind an accepted card, that card and they spell it from before the card
     card_more : (card : ExactCard) (t : State) → card_step m f s card ≡ Ok t → From t cards b → From s (card ∷ cards) b
     card_more (Xu column row) t h from =
         paired (Xu column row) column row (upper_first f) (pair_more column row (upper_first f) t h from) refl refl
@@ -167,26 +184,32 @@ module _ (m : Model) (f : Form) (size : HasSizeOf m f) where
         }
 
   -- ---- and from those before it to those after it
+  -- a card XU or XL of a column and a row that have no status yet is accepted, and gives each one
   pair_steps : (s : State) (column row : Name) (status : ℕ → Status) (j i : ℕ) → column_place m column ≡ Some j →
       row_place m row ≡ Some i → is_marked s j ≡ false → is_marked s (f.cols + i) ≡ false →
       pair_step m f s column row status ≡ Ok (mark (f.cols + i) (status (f.cols + i)) (mark j Basic s))
   unfolding pair_step
   pair_steps s column row status j i p q a c = rw (p, q, a, c) refl
 
+  -- a card UL of a column with an upper bound and no status yet is accepted, and puts it at that bound
   upper_steps : (s : State) (column : Name) (j : ℕ) (u : ℚ) → column_place m column ≡ Some j → is_marked s j ≡ false →
       form_upper f j ≡ Some u → upper_step m f s column ≡ Ok (mark j AtUpper s)
   unfolding upper_step
   upper_steps s column j u p a c = rw (p, a, c) refl
 
+  -- a card LL of a column that has no status yet is accepted, and gives it its usual one
   usual_steps : (s : State) (column : Name) (j : ℕ) → column_place m column ≡ Some j → is_marked s j ≡ false →
       usual_step m f s column ≡ Ok (mark j (lower_first f j) s)
   unfolding usual_step
   usual_steps s column j p a = rw (p, a) refl
 
   module _ (s : State) (long : length s.marks ≡ f.cols + f.rows) (cards : List ExactCard) (b : List Status) where
+    -- a card is accepted in state s, and the further cards spell the basis b from the state behind it
     abbrev Next : ExactCard → Type 0
     Next card = (t : State) × (card_step m f s card ≡ Ok t) × From t cards b × (length t.marks ≡ f.cols + f.rows)
 
+    -- where a card XU or XL and further cards spell a basis, the card is accepted, and the further cards spell it from
+    -- behind it
     pair_less : (card : ExactCard) (column row : Name) (status : ℕ → Status) →
         card_step m f s card ≡ pair_step m f s column row status → Columns s (column ∷ columns_on cards) b →
         Rows s (row ∷ rows_on cards) b → IsPair m f b column row status → All (Means m f b) cards →
@@ -224,6 +247,8 @@ module _ (m : Model) (f : Form) (size : HasSizeOf m f) where
           mark_length f s1 k st ∙ long1,
         )
 
+    -- where a card UL or LL and further cards spell a basis, the card is accepted, and the further cards spell it from
+    -- behind it
     column_less : (card : ExactCard) (column : Name) (j : ℕ) (status : Status) → column_place m column ≡ Some j →
         Columns s (column ∷ columns_on cards) b → Rows s (rows_on cards) b → basis_at b j ≡ status →
         All (Means m f b) cards → length b ≡ f.cols + f.rows →
@@ -246,6 +271,7 @@ module _ (m : Model) (f : Form) (size : HasSizeOf m f) where
               status ∙ long,
         )
 
+    -- where a card and further cards spell a basis, the card is accepted, and the further cards spell it from behind it
     card_less : (card : ExactCard) → From s (card ∷ cards) b → Next card
     card_less (Xu column row) g =
         pair_less (Xu column row) column row (upper_first f) refl g.columns g.rows
@@ -266,17 +292,20 @@ module _ (m : Model) (f : Form) (size : HasSizeOf m f) where
         (All-tail (Means m f b) (Ll column) cards g.mean) g.all
         (λ free. usual_steps s column p.j p.is_column free)
 
+  -- giving one column a status leaves as many marks as the form has columns
   one_long : (s : State) → length s.marks ≡ f.cols + f.rows → (j : ℕ) (status : Status) (t : State) → t ≡ mark j
       status s →
       length t.marks ≡ f.cols + f.rows
   one_long s long j status t e = ap (λ (u : State). length u.marks) e ∙ mark_length f s j status ∙ long
 
+  -- giving a column and a row a status leaves as many marks as the form has columns
   pair_long : (s : State) → length s.marks ≡ f.cols + f.rows → (j k : ℕ) (status : Status) (t : State) →
       t ≡ mark k status (mark j Basic s) → length t.marks ≡ f.cols + f.rows
   pair_long s long j k status t e =
       ap (λ (u : State). length u.marks) e ∙ mark_length f (mark j Basic s) k status ∙ mark_length f s j Basic ∙ long
 
   -- ---- no more cards
+  -- from each state no cards spell the basis that the state gives
   done_forth : (s : State) (b : List Status) → b ≡ marked_basis f s → From s [] b
   done_forth s b e = record {
     columns = record {
@@ -293,6 +322,7 @@ module _ (m : Model) (f : Form) (size : HasSizeOf m f) where
     all = ap length e ∙ marked_length f s;
   }
 
+  -- a basis that no cards spell from a state is the one that the state gives
   done_back : (s : State) (b : List Status) → From s [] b → b ≡ marked_basis f s
   done_back s b g = ext_get_or Basic b (marked_basis f s) (g.all ∙ sym (marked_length f s))
       (λ k h. by k (omega (arith, h, g.all)) (cases_lt k f.cols))
@@ -308,6 +338,7 @@ module _ (m : Model) (f : Form) (size : HasSizeOf m f) where
           ∙ ap (status_of f s) z ∙ sym (marked_at f s k h)
 
   -- ---- all cards
+  -- an accepted card leaves as many marks as the form has columns
   stepped : (s : State) → length s.marks ≡ f.cols + f.rows → (card : ExactCard) (t : State) → card_step m f s card ≡
       Ok t →
       length t.marks ≡ f.cols + f.rows
@@ -318,12 +349,14 @@ module _ (m : Model) (f : Form) (size : HasSizeOf m f) where
   stepped s long (Ul column) t h = let p = upper_taken m f s column t h in one_long s long p.takes.j _ t p.takes.marks
   stepped s long (Ll column) t h = let p = usual_taken m f s column t h in one_long s long p.j _ t p.marks
 
+  -- cards that lead from a state to a basis spell it from there
   pub lead_from : (cards : List ExactCard) (s : State) (b : List Status) → length s.marks ≡ f.cols + f.rows →
       LeadTo m f s cards b → From s cards b
   lead_from [] s b long e = done_forth s b e
   lead_from (card ∷ cards) s b long (t, step, rest) =
       card_more s long cards b card t step (lead_from cards t b (stepped s long card t step) rest)
 
+  -- cards that spell a basis from a state lead to it from there
   pub from_lead : (cards : List ExactCard) (s : State) (b : List Status) → length s.marks ≡ f.cols + f.rows →
       From s cards b → LeadTo m f s cards b
   from_lead [] s b long g = done_back s b g
@@ -332,9 +365,11 @@ module _ (m : Model) (f : Form) (size : HasSizeOf m f) where
       (n.0, n.1, from_lead cards n.0 b n.3 n.2)
 
   -- ---- from the start
+  -- before the first line no column has a status from a card
   none_marked : (k : ℕ) → k < f.cols + f.rows → is_marked (start f) k ≡ false
   none_marked k h = ap is_some (get_or-replicate (f.cols + f.rows) k None None h)
 
+  -- cards that spell a basis from the state before the first line are cards of that basis
   pub start_forth : (cards : List ExactCard) (b : List Status) → From (start f) cards b → AreCardsOf m f cards b
   start_forth cards b g = record {
     columns_once = g.columns.once;
@@ -347,6 +382,7 @@ module _ (m : Model) (f : Form) (size : HasSizeOf m f) where
         ∙ start_none f (f.cols + i) (omega (arith, l)) ∙ usual_row f (f.cols + i) (omega arith);
   }
 
+  -- cards of a basis spell it from the state before the first line
   pub start_back : (cards : List ExactCard) (b : List Status) → AreCardsOf m f cards b → From (start f) cards b
   start_back cards b g = record {
     columns = record {

@@ -182,12 +182,15 @@ cards_read (card ∷ cards) h =
     ∙ ap (λ rs. Says card ∷ rs) (cards_read cards (All-tail HasNames card cards h))
 
 module _ (m : Model) (f : Form) (size : HasSizeOf m f) (kept : IsModel m) (basis : List Status) where
+  -- the name of each column is one that a model may have
   column_is_name : (j : ℕ) → j < f.cols → is_name (column_name m j) ≡ true
   column_is_name j l = (kept.columns j no_column (omega (arith, l, size.cols))).name
 
+  -- the name of each row is one that a model may have
   row_is_name : (i : ℕ) → i < f.rows → is_name (row_name m i) ≡ true
   row_is_name i l = is_row (row_name m i) (kept.rows i no_row (omega (arith, l, size.rows)))
 
+  -- the names on the card of a column and a row are names, where theirs are
   pair_names : (s : Status) (column row : Name) → is_name column ≡ true → is_name row ≡ true →
       HasNames (paired s column row)
   pair_names Basic column row c r = (c, r)
@@ -195,6 +198,7 @@ module _ (m : Model) (f : Form) (size : HasSizeOf m f) (kept : IsModel m) (basis
   pair_names AtUpper column row c r = (c, r)
   pair_names AtZero column row c r = (c, r)
 
+  -- the names on each card of a basis are names
   all_names : All HasNames (cards_of m f basis)
   unfolding cards_of
   all_names =
@@ -210,9 +214,11 @@ module _ (m : Model) (f : Form) (size : HasSizeOf m f) (kept : IsModel m) (basis
       (All-map HasNames (upper_card m) (upper_columns f basis)
       (chosen_all _ (λ j. HasNames (upper_card m j)) f.cols (λ k l e. column_is_name k l)))
 
+  -- the line of a written card is plain
   abbrev IsPlainCard : WrittenCard → Type 0
   IsPlainCard card = IsPlainLine (line_text Free card)
 
+  -- each line of the file of a basis is plain
   all_plain : All IsPlainCard (written_cards m f basis)
   unfolding written_cards
   all_plain =
@@ -225,10 +231,12 @@ module _ (m : Model) (f : Form) (size : HasSizeOf m f) (kept : IsModel m) (basis
       (All-cons IsPlainCard (section_card (codes "ENDATA")) []
       (record { short = omega arith; plain = refl }) (All-nil IsPlainCard)))
 
+  -- the lines of the file of a basis are those of its written cards
   text_lines : lines_of (bas_text m f basis) ≡ card_lines Free (written_cards m f basis)
   unfolding bas_text
   text_lines = has_its_lines Free (written_cards m f basis) all_plain
 
+  -- the lines of the file of a basis are those of NAME and its cards, and then ENDATA
   lines_cut : card_lines Free (written_cards m f basis) ≡
       card_lines Free (name_card m.name ∷ map written_card (cards_of m f basis)) ++ Text (codes "ENDATA") ∷ []
   unfolding written_cards
@@ -236,6 +244,7 @@ module _ (m : Model) (f : Form) (size : HasSizeOf m f) (kept : IsModel m) (basis
       map-append (λ card. Text (line_text Free card)) (name_card m.name ∷ map written_card (cards_of m f basis))
       (section_card (codes "ENDATA") ∷ [])
 
+  -- the lines of the file of a basis have its cards before ENDATA
   has_cards : HasCards (lines_of (bas_text m f basis)) (cards_of m f basis)
   has_cards = record {
     front = card_lines Free (name_card m.name ∷ map written_card (cards_of m f basis));
@@ -249,6 +258,7 @@ module _ (m : Model) (f : Form) (size : HasSizeOf m f) (kept : IsModel m) (basis
         ∙ ap (λ rs. Named ∷ rs) (cards_read (cards_of m f basis) all_names));
   }
 
+  -- the file that a basis of the form is written as spells that basis
   pub spells : IsBasisOf f basis → SpellsBasis m f (lines_of (bas_text m f basis)) basis
   spells fits = record {
     cards = cards_of m f basis;

@@ -17,34 +17,35 @@ use Rattle.spec_bas.specs.declared.card.Reading.TheVariants.{Skipped, Named, End
 abbrev pub ExactCard : Type 0
 ExactCard = Card Name
 
--- what a line is, with names as lists of bytes
+-- what a line of a basis file is read as, with names as lists of bytes
 abbrev pub ExactReading : Type 0
 ExactReading = Reading Name
 
 -- ---- data cards
 
--- the card of a kind with a column and a row
+-- the card XU or XL with a column and a row; none where the first word is another one
 abbrev pub pair_of : List ℕ → Name → Name → Option ExactCard
 pair_of kind column row = look_up kind ((codes "XU", Xu column row) ∷ (codes "XL", Xl column row) ∷ [])
 
--- the card of a kind with a column alone
+-- the card UL or LL with a column alone; none where the first word is another one
 abbrev pub single_of : List ℕ → Name → Option ExactCard
 single_of kind column = look_up kind ((codes "UL", Ul column) ∷ (codes "LL", Ll column) ∷ [])
 
--- the card that words say, if they say one
+-- the data card that the words of a line say: three words XU or XL with a column and a row, two words UL or LL with a
+-- column; none for any other words
 unfoldable pub card_of : List (List ℕ) → Option ExactCard
 card_of (kind ∷ column ∷ row ∷ []) = pair_of kind column row
 card_of (kind ∷ column ∷ []) = single_of kind column
 card_of words = None
 
--- the card that a line says, or a fault where it says none
+-- a line as its data card, or as a fault where it says none
 abbrev pub data_reading : Option ExactCard → ExactReading
 data_reading None = Wrong code.Card
 data_reading (Some card) = Says card
 
 -- ---- section cards
 
--- the section card that a line is, or a fault where it is none
+-- a line as its section card, or as a fault where it is none
 abbrev pub section_by : Option ExactReading → ExactReading
 section_by None = Wrong code.Section
 section_by (Some reading) = reading
@@ -56,13 +57,15 @@ section_reading (word ∷ more) = section_by (look_up word ((codes "NAME", Named
 
 -- ---- lines
 
--- what the bytes of a line are
+-- how the bytes of a line are read: skipped; or a data card, where they begin with a blank;
+-- or a section card; or a fault
 unfoldable pub text_reading : List ℕ → ExactReading
 text_reading bytes =
     if is_skipped bytes then Skipped
     else (if begins_with_blank bytes then data_reading (card_of (words_of bytes)) else section_reading (words_of bytes))
 
--- what a line is; a long one is no card, and at the end of the input the file is cut
+-- how a line of a basis file is read. A line that is too long is the fault `Card`. The end of the input, or of what may
+-- be read of it, is the fault `Cut`.
 unfoldable pub reading_of : Line (List ℕ) → ExactReading
 reading_of (line.Text bytes) = text_reading bytes
 reading_of (line.Long len) = Wrong code.Card

@@ -5,12 +5,13 @@ use Rattle.spec_simplex.specs.Form.{Form}
 use Rattle.spec_simplex.specs.Eliminate.{IsBasisOf}
 use Rattle.spec_bas.specs.Steps.{State, marked_basis}
 
--- the form has the model's rows and columns
+-- the form has as many rows as the model, and as many structural columns as the model has columns
 pub record HasSizeOf (m : Model) (f : Form) : Type 0 where
   pub rows : f.rows ≡ height m
   pub cols : f.cols ≡ width m
 
--- a status for each column, or none; and with the usual ones there, they are a basis of the form
+-- The state has a status or none for each column of the form, structural or logical. With the usual status for each
+-- column that has none, these are a basis of the form.
 pub record IsMarking (f : Form) (s : State) : Type 0 where
   pub all : length s.marks ≡ f.cols + f.rows
   pub fits : IsBasisOf f (marked_basis f s)

@@ -32,30 +32,32 @@ chosen n test = filter test (made n (λ k. k))
 abbrev pub basic_columns : Form → List Status → List ℕ
 basic_columns f basis = chosen f.cols (λ j. is_basic (basis_at basis j))
 
--- the rows whose logical columns are not basic
+-- the numbers of the rows whose logical columns are not basic in a basis, in order
 abbrev pub other_rows : Form → List Status → List ℕ
 other_rows f basis = chosen f.rows (λ i. not (is_basic (basis_at basis (f.cols + i))))
 
--- the model's columns at their upper bounds
+-- the numbers of the model's columns that are at their upper bounds in a basis, in order
 abbrev pub upper_columns : Form → List Status → List ℕ
 upper_columns f basis = chosen f.cols (λ j. is_at_upper (basis_at basis j))
 
--- a pair by where the row stands
+-- the card of a basic column and a row with this status: XU if the row is at its upper limit, else XL
 abbrev pub paired : Status → Name → Name → ExactCard
 paired Basic column row = Xl column row
 paired AtLower column row = Xl column row
 paired AtUpper column row = Xu column row
 paired AtZero column row = Xl column row
 
--- the card of a basic column and a row that is not basic, by their numbers
+-- the card of a basic column and a row that is not basic, by the pair of their numbers: XU if the row is at its upper
+-- limit in the basis, else XL
 abbrev pub pair_card : Model → Form → List Status → ℕ × ℕ → ExactCard
 pair_card m f basis pair = paired (basis_at basis (f.cols + pair.1)) (column m pair.0).name (row m pair.1).name
 
--- the card of column j at its upper bound
+-- the card UL of column j
 abbrev pub upper_card : Model → ℕ → ExactCard
 upper_card m j = Ul (column m j).name
 
--- the cards of a basis: pairs, then columns at their upper bounds
+-- the cards of a basis: one for each basic column with a row that is not basic, the first with the first and so on;
+-- then one for each column at its upper bound
 unfoldable pub cards_of : Model → Form → List Status → List ExactCard
 cards_of m f basis =
     map (pair_card m f basis) (zip (basic_columns f basis) (other_rows f basis))
@@ -71,7 +73,7 @@ pair_fields kind column row = field_at 1 kind ∷ field_at 2 column ∷ field_at
 abbrev pub single_fields : List ℕ → Name → Fields
 single_fields kind column = field_at 1 kind ∷ field_at 2 column ∷ []
 
--- the fields of a card
+-- the fields of a data card: its kind, its column, and its row if it has one
 abbrev pub fields_on : ExactCard → Fields
 fields_on (Xu column row) = pair_fields (codes "XU") column row
 fields_on (Xl column row) = pair_fields (codes "XL") column row
@@ -87,6 +89,6 @@ unfoldable pub written_cards : Model → Form → List Status → WrittenCards
 written_cards m f basis =
     name_card m.name ∷ map written_card (cards_of m f basis) ++ section_card (codes "ENDATA") ∷ []
 
--- the file that a basis is written as
+-- the text of the file that a basis is written as: NAME, the cards of the basis and ENDATA, in free form
 unfoldable pub bas_text : Model → Form → List Status → List ℕ
 bas_text m f basis = cards_text Free (written_cards m f basis)

@@ -4,9 +4,9 @@ use crate::fault::BasCode;
 /// A data card: the words of MPS basis files, with the names behind them.
 #[derive(Drop)]
 pub enum Card<N> {
-    /// `XU`: the column is basic, and the row is at its upper limit.
+    /// `XU`: the column is basic, and the row is at its upper limit, else at its lower one, else at 0.
     Xu { column: N, row: N },
-    /// `XL`: the column is basic, and the row is at its lower limit.
+    /// `XL`: the column is basic, and the row is at its lower limit, else at its upper one, else at 0.
     Xl { column: N, row: N },
     /// `UL`: the column is at its upper bound.
     Ul { column: N },
@@ -23,7 +23,8 @@ pub enum Reading<N> {
     Named,
     /// `ENDATA`, whatever stands behind it.
     Ends,
+    /// A data card.
     Says(Card<N>),
-    /// None of these.
+    /// None of these, for this reason.
     Wrong(BasCode),
 }

@@ -16,7 +16,7 @@ pub enum BasCode {
     Repeated,
     /// This column has no upper bound.
     NoUpperBound,
-    /// The file ends before ENDATA.
+    /// The file, or what may be read of it, ends before ENDATA.
     Cut,
 }
 

@@ -34,18 +34,20 @@ pub use card::{Card, Reading};
 pub use fault::{BasCode, BasFault};
 pub use written::written_files_spell_their_basis;
 
-/// The form of a model has its rows and columns.
+/// The form of a model has as many rows as the model, and as many structural columns as the model has columns.
 pub fn forms_have_the_size_of_models()
     ensures { (limit : Option ℕ) (m : Model) (f : Form) → form_of limit m ≡ Ok f → HasSizeOf m f }
 {}
 
-/// Reading the lines of a file one after the other gives what its cards spell, and nothing else.
+/// For a form of the model's size, reading the lines of a file one after the other gives a basis exactly where the
+/// file's cards spell that basis.
 pub fn lines_give_what_cards_spell()
     ensures { (m : Model) (f : Form) (lines : List (Line (List ℕ))) (basis : List Status) → HasSizeOf m f →
         (Gives m f lines basis ↔ SpellsBasis m f lines basis) }
 {}
 
-/// Each file spells one basis, or one line refuses it with one fault.
+/// For a form of the model's size, each file spells one basis and no other, or is refused for its first wrong line with
+/// that line's fault; never both.
 pub fn files_are_judged()
     ensures some { (m : Model) (f : Form) (lines : List (Line (List ℕ))) → HasSizeOf m f →
         ((basis : List Status) × SpellsBasis m f lines basis)
@@ -56,7 +58,7 @@ pub fn files_are_judged()
         (code : BasCode) → HasSizeOf m f → SpellsBasis m f lines basis → ¬ (Refuses m f lines n code) }
 {}
 
-/// What a file spells is a basis of the form.
+/// Where a file spells a basis for a form of the model's size, that is a basis of the form.
 pub fn spelled_bases_fit()
     ensures { (m : Model) (f : Form) (lines : List (Line (List ℕ))) (basis : List Status) → HasSizeOf m f →
         SpellsBasis m f lines basis → IsBasisOf f basis }
