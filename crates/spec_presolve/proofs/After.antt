@@ -1,13 +1,15 @@
 -- The model after a reduction, with what the step from the model before needs for its certificates.
 --
 -- `row_less`: a model has one row, at i, more than the model without row i.
--- `empty_step`: where row i is found to be without entries, the model without it is one empty step on.
--- `single_step`: where row i is found with one entry, the model without it and with tighter bounds is one single step
---   on.
+-- `empty_step`: where row i is found to be without entries and 0 within its limits, the model has this row more than
+--   the model without it, and nothing else.
+-- `single_step`: where row i is found with one entry, in column j, the model has this row more than the model without
+--   it, in which column j alone has other bounds: those that the row tightens.
 -- `shifted_ok`: where moving all right sides for column j at v succeeds, each row has its own side less the entry times
 --   v.
 -- `fixed_parts`: where column j is removed at v, the right sides and the offset were moved before, without a refusal.
--- `fixed_step`: where column j is found to be fixed at v, the model after its removal is one fixed step on.
+-- `fixed_step`: where column j is found to be fixed at v, the model has this column more than the one after its
+--   removal, whose limits and offset are moved by what the column adds at v.
 use Rattle.std.proofs.Common.{◌≡◌, ℕ, suc, ◌+◌, ◌<◌, ◌≤◌, Bool, true, false, cond, ltb, length, get_or}
 use Rattle.std.proofs.Common.{Option, Ok, refl, sym, ap, ap₂, ◌∙◌, subst, arith, ⊎_elim}
 use borrow.Author.Tests.{ltb-true, ltb-false}
@@ -71,7 +73,7 @@ module _ (m : Model) (j : ℕ) (l : Limits) (inside : j < width m) where
   column_other : (k : ℕ) → ¬ (k ≡ j) → column (with_bounds m j l) k ≡ column m k
   column_other k o = get_or-set_other m.columns j k changed no_column o
 
-  -- what bounds leave
+  -- what bounds do not change in column j, each column has as before in the model with other bounds of column j
   same_of : {A : Type 0} (f : ExactColumn → A) → f changed ≡ f (column m j) → (k : ℕ) →
       f (column (with_bounds m j l) k) ≡ f (column m k)
   same_of f e k =
@@ -117,7 +119,8 @@ single_step limit m i j a lower upper f =
 
 -- ---- right sides that are moved
 
--- the first k of them are
+-- x is the model m in which the first k right sides are less by v times their row's coefficient in column j; its offset
+-- is left open
 pub record Shifted (m : Model) (j : ℕ) (v : ℚ) (k : ℕ) (x : Model) : Type 0 where
   pub name_is : x.name ≡ m.name
   pub objective_is : x.objective ≡ m.objective

@@ -63,7 +63,7 @@ halted_carries : (limit : Option ℕ) (m : Model) (h : Halt) (r : Reductions) �
     ◌≡◌ {A = Reductions} (record { steps = []; last = m; halt = h }) r → Carries limit m r
 halted_carries limit m h r e = subst (Carries limit m) e (λ c back. none_carried limit m h c back)
 
--- the first k reductions carry each accepted certificate of the last model back to the first
+-- at most k reductions carry each accepted certificate of the last model, where this is not refused, back to the first
 within_carries : (limit : Option ℕ) (k : ℕ) (m : Model) (r : Reductions) → reduced_within limit k m ≡ Ok r →
     Carries limit m r
 within_carries limit zero m r h = halted_carries limit m Done r (ok_same _ r h)
@@ -88,7 +88,8 @@ within_carries limit (suc k) m r h =
         chain m n.0 rest.0.last c x.0 back l
         (over_reduction limit m n.0 s x.0 back e n.1 x.2 l.fits l.checks))
 
--- a certificate carried over all reductions is accepted for the first model and shows the same
+-- an accepted certificate of the last model, carried over all reductions, is accepted for the first model and shows the
+-- same of it
 pub carries : (limit : Option ℕ) (m : Model) (r : Reductions) (c back : ExactCertificate) → reduced limit m ≡ Ok r →
     carried limit r.steps c ≡ Ok back → IsFor r.last c → Checks r.last c → IsCarried m r.last c back
 carries limit m r c back h = within_carries limit (width m + height m) m r h c back

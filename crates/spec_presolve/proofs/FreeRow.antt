@@ -97,6 +97,7 @@ module _ (m n : Model) (i : ℕ) (h : FreeStep m n i) where
   asks y e = asks_more m n i h.row y 0ℚ e ∙ plus_none (rows_ask n y) (asked (limits m i) 0ℚ)
 
   -- ---- from the model without the row
+  -- a point that is feasible in the model without the free row is feasible in the model with it
   feasible : (x : List ℚ) → IsFeasible n x → IsFeasible m x
   feasible x f =
       feasible_more m n i h.row x f (λ k p b. subst (λ l. IsBetween l (part x k)) (h.bounds_are k) b)
@@ -131,6 +132,7 @@ module _ (m n : Model) (i : ℕ) (h : FreeStep m n i) where
   }
 
   -- ---- and back
+  -- a point that is feasible in the model with the free row is feasible in the model without it
   feasible_back : (x : List ℚ) → IsFeasible m x → IsFeasible n x
   feasible_back x f = record {
     one_each = f.one_each ∙ h.row.width_is;
@@ -172,6 +174,7 @@ module _ (m n : Model) (i : ℕ) (h : FreeStep m n i) where
   }
 
   -- ---- the row's own multiplier
+  -- an option that is `None` has no number v
   none_some : {A : Type 0} (v : ℚ) (o : Option ℚ) → o ≡ None → o ≡ Some v → A
   none_some v o p q = let z : None ≡ Some v = sym p ∙ q in absurd (cc)
 

@@ -55,7 +55,8 @@ none_kept m i e none a p q =
     ⊎_elim (λ l. none a (omega (arith, l)) q)
     (λ l. let same : i ≡ a = omega (arith, l, p) in ap (λ a. is_free (row m a).kind) (sym same) ∙ e) (cases_lt i a)
 
--- what holds without free rows and passes over one free row holds over the free ones of the first k rows
+-- Where P holds of a model without free rows and itself, and still holds when a free row is put into its first model,
+-- it holds of a model whose rows from k on are not free and of this model without the free ones of its first k rows.
 along : (P : Model → Model → Type 0) → ((m : Model) → NoneFrom 0 m → P m m) →
     ((m n : Model) (i : ℕ) → i < height m → is_free (row m i).kind ≡ true → P (without_row m i) n → P m n) →
     (k : ℕ) (m : Model) → k ≤ height m → NoneFrom k m → P m (without_free_below k m)
@@ -78,7 +79,8 @@ Same P = (m : Model) → NoneFrom 0 m → P m m
 abbrev Less : (Model → Model → Type 0) → Type 0
 Less P = (m n : Model) (i : ℕ) → i < height m → is_free (row m i).kind ≡ true → P (without_row m i) n → P m n
 
--- what holds without free rows and passes over one free row holds of a model and it without free rows
+-- Where P holds of a model without free rows and itself, and still holds when a free row is put into its first model,
+-- it holds of each model and of this model without its free rows.
 all_gone : (P : Model → Model → Type 0) → Same P → Less P → (m : Model) → P m (without_free_rows m)
 unfolding without_free_rows
 all_gone P same less m = along P same less (height m) m (omega arith) (λ a p q. absurd (omega (arith, p, q)))
@@ -172,7 +174,7 @@ part_removed y i a l =
     ⊎_elim (λ p. get_or-remove_below y i 0ℚ a p l ∙ ap (part y) (sym (skipping_below i a p)))
     (λ p. get_or-remove_above y i 0ℚ a p l ∙ ap (part y) (sym (skipping_from i a p))) (cases_lt a i)
 
--- the certificate without the multiplier of row i, and that this is 0
+-- the certificate without the multiplier of row i; one that has no multipliers, a clash or a ray, stays
 abbrev less_at : ℕ → ExactCertificate → ExactCertificate
 less_at i (Optimal x y) = Optimal x (remove y i)
 less_at i (Infeasible y) = Infeasible (remove y i)

@@ -37,7 +37,7 @@ bound_or_old : (o old : Option ℚ) → IfSome o (λ q. abs_ℚ q <ℚ whole (po
 bound_or_old None old h k b n = (b, n)
 bound_or_old (Some q) old h k b n = (h, k)
 
--- the right sides are moved one after the other
+-- x is a model within these limits, with as many rows and columns as m
 record Moving (limits : SizeLimits) (m : Model) (x : Model) : Type 0 where
   kept : IsModelWithin limits x
   same_height : length x.rows ≡ length m.rows

@@ -69,7 +69,8 @@ unless_keeps : {A : Type 0} (Q : Option A → Type 0) (o : Option A) (run : Run 
 unless_keeps Q None run x q k h = k x h
 unless_keeps Q (Some a) run x q k h = subst Q (ok_same (Some a) x h) q
 
--- by which rule
+-- where a choice comes from: from bounds that clash, a row without entries, a row with one entry, a fixed column, or it
+-- is to halt as done
 pub data Origin (limit : Option ℕ) (m : Model) (c : ExactChoice) : Type 0 where
   of_clash : Found (width m) (clash_at limit m) c → Origin limit m c
   of_empty : Found (height m) (empty_at limit m) c → Origin limit m c
@@ -118,6 +119,7 @@ no_clash j true r e = halt_not (Clash j) r (same_Some (choice.Halt (Clash j)) (R
 no_clash j false r e = none_not (Reduce r) e
 
 -- ---- a row without entries
+-- row i is one of the model's, has no entries, and 0 is within its limits
 pub record EmptyFound (m : Model) (i : ℕ) : Type 0 where
   pub inside : i < height m
   pub nothing : (k : ℕ) → k < width m → coefficient m i k ≡ 0ℚ
@@ -143,6 +145,8 @@ empty_goes i l r false false e f h =
     (reduce_same (Empty i) r h, record { lower = not_above l.lower e; upper = not_below l.upper f })
 
 -- ---- a row with one entry
+-- row i is one of the model's, with the entry a in column j alone; `lower` and `upper` are those of its limits over a
+-- that tighten j's bounds, below 10^20 in absolute value and, at the program's limit, of at most 127 bits
 pub record SingleFound (limit : Option ℕ) (m : Model) (i j : ℕ) (a : ℚ) (lower upper : Option ℚ) : Type 0 where
   pub inside : i < height m
   pub alone : Alone m i (width m) j a
@@ -152,7 +156,8 @@ pub record SingleFound (limit : Option ℕ) (m : Model) (i j : ℕ) (a : ℚ) (l
   pub narrow_lower : limit ≡ Some number_limit → IfSome lower IsNarrow
   pub narrow_upper : limit ≡ Some number_limit → IfSome upper IsNarrow
 
--- what the row asks for against what there was, and what is given
+-- The lower bound `new`, if there is one, is q, which the row asks for. The one that is then taken, `new` or else
+-- `old`, is at least q and at least `old`, where these are there.
 pub record Rises (q old new : Option ℚ) : Type 0 where
   pub from_row : (x : ℚ) → new ≡ Some x → q ≡ Some x
   pub at_row : (x : ℚ) → q ≡ Some x → Least (or_old new old) x
@@ -318,6 +323,7 @@ module _ (limit : Option ℕ) (m : Model) (i j : ℕ) (a : ℚ) (inside : i < he
       bounds_ap x y e f = cc
 
 -- ---- a column that stands still
+-- column j is one of the model's, and v is both of its bounds
 pub record FixedFound (m : Model) (j : ℕ) (v : ℚ) : Type 0 where
   pub inside : j < width m
   pub lower_is : (bounds m j).lower ≡ Some v
@@ -344,6 +350,7 @@ fixed_ok m j (Some l) (Some u) r k e f h = by (eq_ℚ l u) refl h
     by false g h = none_not (Reduce r) h
 
 -- ---- what goes
+-- what the reduction says of its row or column holds in the model, so it may go
 abbrev pub Goes : Option ℕ → Model → ExactReduction → Type 0
 Goes limit m (Empty i) = EmptyFound m i
 Goes limit m (Single i j a lower upper) = SingleFound limit m i j a lower upper

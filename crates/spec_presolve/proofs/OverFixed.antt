@@ -207,7 +207,8 @@ module _ (m n : Model) (j : ℕ) (v : ℚ) (h : FixedStep m n j v) where
         (subst (λ l. IsTight l (part y r) (activity n x r)) (h.limits_are r (lower_row r p)) (c.rows r (lower_row r p))));
   }
 
-  -- a row's part in what all rows ask
+  -- where row r of n has the limit that its multiplier asks for, this limit plus what column j adds to the row is the
+  -- limit that the multiplier asks for in m
   row_tight : (y : List ℚ) (r : ℕ) → r < height n → HasLimit (limits n r) (part y r) →
       IsTight (limits m r) (part y r) (asked (limits n r) (part y r) +ℚ coefficient m r j *ℚ v)
   row_tight y r p t =

@@ -72,7 +72,7 @@ module _ (m n : Model) (i j : ℕ) (a : ℚ) (lower upper : Option ℚ) (h : Sin
   own_bounds : (P : Limits → Type 0) → P (bounds n j) → P (tightened old lower upper)
   own_bounds P p = subst P h.own p
 
-  -- what holds of column j, and of the others
+  -- what holds of column j, and of each other column of m, holds of each column of m
   each_column : (P : ℕ → Type 0) → P j → ((k : ℕ) → k < width m → ¬ (k ≡ j) → P k) → (k : ℕ) → k < width m → P k
   each_column P at others k p = ⊎_elim (λ e. subst P (sym e) at) (λ o. others k p o) (cases_eq k j)
 
@@ -88,6 +88,7 @@ module _ (m n : Model) (i j : ℕ) (a : ℚ) (lower upper : Option ℚ) (h : Sin
       (scaled_between a (part x j) (limits m i) h.not_zero (between_row given old lower upper h.tightens (part x j) own)))
 
   -- ---- an optimal point
+  -- each column but j has in m, with the multiplier v put in for row i, the reduced cost that it has in n
   reduced_other : (y : List ℚ) (v : ℚ) (k : ℕ) → length y ≡ height n → k < width m → ¬ (k ≡ j) →
       reduced m (insert y i v) k ≡ reduced n y k
   reduced_other y v k e p o =
@@ -97,7 +98,8 @@ module _ (m n : Model) (i j : ℕ) (a : ℚ) (lower upper : Option ℚ) (h : Sin
   reduced_own : (y : List ℚ) (v : ℚ) → length y ≡ height n → reduced m (insert y i v) j ≡ reduced n y j -ℚ v *ℚ a
   reduced_own y v e = reduced_more m n i h.row y v j e ∙ ap (λ c. reduced n y j -ℚ v *ℚ c) h.entry
 
-  -- by whether the row takes over what the column needs
+  -- Where x is tight for d at the tightened bounds, and v is d over a if the row gave the bound that d asks for, else
+  -- 0, x is tight for d less v times a at column j's old bounds, and a times x is for v at row i's limits.
   tight_by : (d x v : ℚ) (t : Bool) → is_given lower upper d ≡ t → v ≡ cond t (d *ℚ inverse a) 0ℚ →
       IsTight (tightened old lower upper) d x → IsTight old (d -ℚ v *ℚ a) x × IsTight (limits m i) v (a *ℚ x)
   tight_by d x v true g e k =
@@ -128,6 +130,7 @@ module _ (m n : Model) (i j : ℕ) (a : ℚ) (lower upper : Option ℚ) (h : Sin
       }
 
   -- ---- no point is feasible
+  -- in each column but j the multipliers have in m, with v put in for row i, the part that they have in n
   priced_other : (y : List ℚ) (v : ℚ) (k : ℕ) → length y ≡ height n → k < width m → ¬ (k ≡ j) →
       priced m (insert y i v) k ≡ priced n y k
   priced_other y v k e p o =
@@ -275,7 +278,8 @@ module _ (m n : Model) (i j : ℕ) (a : ℚ) (lower upper : Option ℚ) (h : Sin
   has_zero : (l : Limits) (v : ℚ) → v ≡ 0ℚ → HasLimit l v
   has_zero l v e = subst (HasLimit l) (sym e) (tight_has l 0ℚ 0ℚ (tight_zero l 0ℚ))
 
-  -- the row and the other bound of the column, weighed by d
+  -- Where s is the bound by row i that d asks for, b column j's own other bound, d times b less than d times s, and v
+  -- is d over a, multipliers that are 0 but v at row i show that no point is feasible in m.
   pub apart_by : (d s b v : ℚ) → IsTight given d s → IsTight (turned_limits old) d b → (d *ℚ b) <ℚ (d *ℚ s) →
       v ≡ d *ℚ inverse a → ChecksInfeasible m (alone_at (height n) i v)
   apart_by d s b v row column less is =
@@ -295,6 +299,7 @@ module _ (m n : Model) (i j : ℕ) (a : ℚ) (lower upper : Option ℚ) (h : Sin
       last_zero s = simp ring
 
   -- ---- a ray
+  -- a point and a ray that are accepted for n are accepted for m
   pub unbounded : (x r : List ℚ) → ChecksUnbounded n x r → ChecksUnbounded m x r
   unbounded x r c =
       let own : Allows (tightened old lower upper) (part r j) =

@@ -185,6 +185,7 @@ scaled_tight a d v l n h =
     })
 
 -- ---- the limits' order
+-- where both limits are there, the lower one is at most the upper one
 abbrev pub Ordered : Limits → Type 0
 Ordered l = (p q : ℚ) → l.lower ≡ Some p → l.upper ≡ Some q → p ≤ℚ q
 

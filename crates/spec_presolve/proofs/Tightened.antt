@@ -28,7 +28,7 @@ tight_zero l v =
 
 -- ---- the tighter bounds
 
--- a bound that is at least, or at most, q
+-- the bound is there, and is at least q
 pub record Least (o : Option ℚ) (q : ℚ) : Type 0 where
   pub bound : ℚ
   pub is : o ≡ Some bound
@@ -39,7 +39,8 @@ pub record Most (o : Option ℚ) (q : ℚ) : Type 0 where
   pub is : o ≡ Some bound
   pub at_most : bound ≤ℚ q
 
--- what a row with the limits s, by its entry, gives to a column with the bounds b
+-- `lower` and `upper`, if they are there, are those of s, the limits of a row over its entry. Taken in place of the
+-- bounds b, they are at least as tight as s and as b.
 pub record Tightens (s b : Limits) (lower upper : Option ℚ) : Type 0 where
   pub from_lower : (q : ℚ) → lower ≡ Some q → s.lower ≡ Some q
   pub from_upper : (q : ℚ) → upper ≡ Some q → s.upper ≡ Some q
@@ -147,7 +148,8 @@ module _ (s b : Limits) (lower upper : Option ℚ) (t : Tightens s b lower upper
 
   -- ---- new bounds that clash
 
-  -- the row gave the lower one, and the upper one was there before
+  -- where the tightened bounds cross and the row, whose limits do not, gave the lower one, this is the row's and the
+  -- upper one is the old one
   pub clash_low : Ordered s → (l u q : ℚ) → new.lower ≡ Some l → new.upper ≡ Some u → u <ℚ l → lower ≡ Some q →
       (s.lower ≡ Some l) × (b.upper ≡ Some u)
   clash_low o l u q h k less e =
@@ -159,7 +161,7 @@ module _ (s b : Limits) (lower upper : Option ℚ) (t : Tightens s b lower upper
           absurd (clash_ℚ u l less
           (o l u (given_low l lower refl (ap is_some e) h) (given_high u upper refl (ap is_some f) k)))
 
-  -- the row gave the upper one, and the lower one was there before
+  -- where the row gave the upper one of the tightened bounds alone, this is the row's, and the lower one is the old one
   pub clash_high : (l u q : ℚ) → new.lower ≡ Some l → new.upper ≡ Some u → lower ≡ None → upper ≡ Some q →
       (s.upper ≡ Some u) × (b.lower ≡ Some l)
   clash_high l u q h k f e = (given_high u upper refl (ap is_some e) k, subst (λ x. or_old x b.lower ≡ Some l) f h)

@@ -13,21 +13,23 @@ use Rattle.spec_presolve.specs.Choose.{ExactReduction, ExactChoice, chosen}
 
 -- ---- one reduction
 
--- the bound that is given, or else the one before
+-- the given bound if there is one, else the old one
 abbrev pub or_old : Option ℚ → Option ℚ → Option ℚ
 or_old None old = old
 or_old (Some b) old = Some b
 
--- bounds with the new ones where these are given
+-- the limits with the given bounds in place of the old ones, where they are given
 abbrev pub tightened : Limits → Option ℚ → Option ℚ → Limits
 tightened l lower upper = record { lower = or_old lower l.lower; upper = or_old upper l.upper }
 
--- the right sides less what column j adds to the rows where it is at v
+-- the model m in which each row's right side is less by v times the row's coefficient in column j; or the first refusal
 abbrev pub shifted : Option ℕ → Model → ℕ → ℚ → Run Model
 shifted limit m j v =
     steps (height m) (λ i n. less_product limit (coefficient m i j) v (row m i).rhs >>= λ b. Ok (with_rhs n i b)) m
 
--- the model after a reduction, at a limit
+-- The model after a reduction, at a limit. A row goes without entries, or with one entry, whose column takes the bounds
+-- that the row gave. Or a column fixed at v goes: right sides are less by what it adds, and the offset is more by its
+-- cost times v. Or the first refusal.
 unfoldable pub after : Option ℕ → Model → ExactReduction → Run Model
 after limit m (Empty i) = Ok (without_row m i)
 after limit m (Single i j a lower upper) =
@@ -44,12 +46,13 @@ pub record Reductions : Type 0 where
   pub last : Model
   pub halt : Halt
 
--- ends with the model where the choice is to halt, and goes on with the reduction else
+-- what follows a choice: to halt ends the reductions with the model m, and a reduction is handed to `next`
 abbrev pub proceed : Model → ExactChoice → (ExactReduction → Run Reductions) → Run Reductions
 proceed m (choice.Halt halt) next = Ok (record { steps = []; last = m; halt = halt })
 proceed m (Reduce r) next = next r
 
--- at most n reductions of a model, one after the other, and the model that is left
+-- at most n reductions of a model, one after the other, with the model that is left and why no other follows; that is
+-- `Done` too where n reductions were made. Or the first refusal.
 abbrev pub reduced_within : Option ℕ → ℕ → Model → Run Reductions
 reduced_within limit zero m = Ok (record { steps = []; last = m; halt = Done })
 reduced_within limit (suc n) m =
@@ -57,6 +60,7 @@ reduced_within limit (suc n) m =
     (λ r. after limit m r >>= λ smaller. reduced_within limit n smaller >>= λ rest.
     Ok (record rest { steps = (r, smaller) ∷ rest.steps }))
 
--- Each takes a row or a column, so there are no more of them than rows and columns.
+-- all reductions of a model, one after the other, or the first refusal: as each takes a row or a column, no more than
+-- it has of both
 abbrev pub reduced : Option ℕ → Model → Run Reductions
 reduced limit m = reduced_within limit (width m + height m) m

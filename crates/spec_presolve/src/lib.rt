@@ -46,8 +46,9 @@ ghost use Rattle.spec_presolve.specs.Presolved.{ExactPresolved, IsPresolved};
 pub use presolved::{Presolved, Way, Why};
 pub use reduction::{Choice, Halt, InRow, Reduction};
 
-/// A certificate of the last model, carried back at any limit, is accepted for the first one, and shows the same of it,
-/// which is true. The checker's run at a limit says so, or is refused an operation; it never says no.
+/// A certificate that is accepted for the last model is, carried back at any limit that refuses none of this, accepted
+/// for the first one. It shows the same of it, which is true. The checker's run at a limit says so, or is refused an
+/// operation; it never says no.
 pub fn certificates_are_carried_back()
     ensures conditions { (limit : Option ℕ) (m : Model) (r : Reductions) (c back : ExactCertificate) →
         reduced limit m ≡ Ok r → carried limit r.steps c ≡ Ok back → IsFor r.last c → Checks r.last c →
@@ -95,7 +96,7 @@ pub fn ends_are_certified()
         reduced limit m ≡ Ok r → halted r.last r.halt ≡ Some c → IsShown r.last c }
 {}
 
-/// Reductions end where none applies, and each of them takes a row or a column.
+/// Where none is refused, reductions end where no other applies, and each of them takes a row or a column.
 pub fn reductions_end()
     ensures none_applies { (limit : Option ℕ) (m : Model) (r : Reductions) →
         reduced limit m ≡ Ok r → chosen limit r.last ≡ Ok (choice.Halt r.halt) }
@@ -109,7 +110,7 @@ pub fn reduced_models_may_be_kept()
         All (λ s. IsUsualModel s.1) r.steps × IsUsualModel r.last }
 {}
 
-/// An answer that presolve and the solve of a smaller model give is true of the model itself.
+/// An answer that a presolved solve gives, by a smaller model or by the model as it is, is true of the model itself.
 pub fn presolved_answers_are_true()
     ensures { (m : Model) (budget : ℕ) (p : ExactPresolved) (known : Known ℚ) (cert : Certificate (List ℚ))
         (basis : Option (List Status)) (pivots : ℕ) →

@@ -1,6 +1,6 @@
 // What makes a model smaller, over the type F of numbers. Rows and columns have the numbers that they have then.
 
-/// What stands in a row.
+/// How many entries stand in a row: none, one, or more.
 #[derive(Clone, Copy)]
 pub enum InRow<F> {
     Nothing,
@@ -17,8 +17,8 @@ pub enum Reduction<F> {
     Empty {
         row: u32,
     },
-    /// A row goes that has one entry, `value` in a column. Where it gives the column a lower or an upper bound, it is
-    /// here.
+    /// A row goes that has one entry, `value` in a column. Where it gives the column a tighter lower or upper bound
+    /// than the column has, that is here.
     Single {
         row: u32,
         column: u32,
@@ -46,7 +46,7 @@ pub enum Halt {
     Below { row: u32 },
 }
 
-/// What comes next.
+/// What comes next: a step to a smaller model, or the end of all steps.
 #[derive(Clone, Copy)]
 pub enum Choice<F> {
     Reduce(Reduction<F>),
