@@ -16,24 +16,30 @@ use Rattle.spec_range.proofs.RangedTableau.{form_bounds, bounded, fixed_after}
 use Rattle.spec_range.proofs.Compared.{SameBounds}
 
 module _ (m : Model) (ls : List (Option ℚ × Option ℚ)) (h : Limited m ls) where
+  -- the form's lower bound of column j is that of the model's column j
   pub structural_low : (j : ℕ) → j < width m → (form_bounds (formed m ls)).lower j ≡ (bounds m j).lower
   structural_low j l = (bounded (formed m ls) (formed_proper m ls h)).lower j (omega (arith, l)) ∙ lower_structural m ls h j l
 
+  -- the form's upper bound of column j is that of the model's column j
   pub structural_high : (j : ℕ) → j < width m → (form_bounds (formed m ls)).upper j ≡ (bounds m j).upper
   structural_high j l = (bounded (formed m ls) (formed_proper m ls h)).upper j (omega (arith, l)) ∙ upper_structural m ls h j l
 
+  -- the form's lower bound of row i's logical column is the row's lower limit
   pub logical_low : (i : ℕ) → i < height m → (form_bounds (formed m ls)).lower (width m + i) ≡ (limits m i).lower
   logical_low i l =
       (bounded (formed m ls) (formed_proper m ls h)).lower (width m + i) (omega (arith, l)) ∙ lower_logical m ls h i l
 
+  -- the form's upper bound of row i's logical column is the row's upper limit
   pub logical_high : (i : ℕ) → i < height m → (form_bounds (formed m ls)).upper (width m + i) ≡ (limits m i).upper
   logical_high i l =
       (bounded (formed m ls) (formed_proper m ls h)).upper (width m + i) (omega (arith, l)) ∙ upper_logical m ls h i l
 
+  -- the form's lower bound of row i's artificial column is 0
   pub artificial_low : (i : ℕ) → i < height m →
       (form_bounds (formed m ls)).lower (width m + height m + i) ≡ Some 0ℚ
   artificial_low i l = (fixed_after (formed m ls) (formed_proper m ls h) i l).0
 
+  -- the form's upper bound of row i's artificial column is 0
   pub artificial_high : (i : ℕ) → i < height m →
       (form_bounds (formed m ls)).upper (width m + height m + i) ≡ Some 0ℚ
   artificial_high i l = (fixed_after (formed m ls) (formed_proper m ls h) i l).1

@@ -31,7 +31,8 @@ use Rattle.spec_runs.specs.Based.{equations, BeginsFrom}
 use Rattle.spec_range.proofs.RangedTableau.{IsOf, form_bounds, IsFor, begun, of, is_for, bounded, fixed_after, ordered}
 use Rattle.spec_range.proofs.RangedTableau.{status_after}
 
--- basic values within their bounds, and reduced costs of the signs of their statuses
+-- each basic value is within its bounds, and the reduced cost of each column that is not fixed has the sign that suits
+-- its status
 pub record IsGood (n : ℕ) (b : Bounds) (t : Table) : Type 0 where
   pub inside : (k : ℕ) → k < n → t.status k ≡ Basic → IsInside (b.lower k) (b.upper k) (t.value k)
   pub suits : IsDualFeasible n b t
@@ -51,33 +52,43 @@ suits_if AtZero l u v d s a b n =
 module _ (limit : Option ℕ) (m : Model) (ls : List (Option ℚ × Option ℚ)) (h : Limited m ls)
     (basis : List Status) (fits : IsBasisOf (formed m ls) basis) (t : Tableau)
     (ok : start_from limit (formed m ls) basis ≡ Ok t) where
+  -- the count of the model's columns
   abbrev w : ℕ
   w = width m
 
+  -- the count of the model's rows
   abbrev r : ℕ
   r = height m
 
+  -- the bounds of the model's form, with those of the artificial columns
   abbrev b : Bounds
   b = form_bounds (formed m ls)
 
+  -- the tableau begins from the model's form
   started : BeginsFrom (formed m ls) t
   started = begun limit (formed m ls) (formed_proper m ls h) basis fits (omega (arith, cost_length m ls h)) t ok
 
+  -- the tableau has the form's shape and bounds, and the basis's statuses
   pub parts : IsOf (formed m ls) basis t
   parts = of limit (formed m ls) (formed_proper m ls h) basis fits (omega (arith, cost_length m ls h)) t ok
 
+  -- the tableau is one of the form's equations, costs and bounds
   pub tableau : IsFor (formed m ls) t
   tableau = is_for limit (formed m ls) (formed_proper m ls h) basis fits (omega (arith, cost_length m ls h)) t ok
 
+  -- the tableau's point has a value for each column of the model
   pub x_length : length (point t) ≡ width m
   x_length = shown.point_length r w _ _ _ t started.based.tableau
 
+  -- the tableau's point has in column j the value of the tableau's column j
   pub x_at : (j : ℕ) → j < width m → part (point t) j ≡ value_at t j
   x_at = shown.point_at r w _ _ _ t started.based.tableau
 
+  -- the tableau's multiplier of row i is the reduced cost of the row's logical column
   y_at : (i : ℕ) → i < r → part (multipliers t) i ≡ reduced_at t (w + i)
   y_at = shown.multiplier_at r w _ _ _ t started.based.tableau
 
+  -- where the tableau is good, its point and multipliers show the optimum of the model
   good_checks : IsGood (w + r + r) b (table_of t) → ChecksOptimal m (point t) (multipliers t)
   good_checks g =
       optimal_checks m ls h (λ _. 1ℚ) b (bounded (formed m ls) (formed_proper m ls h))
@@ -88,6 +99,7 @@ module _ (limit : Option ℕ) (m : Model) (ls : List (Option ℚ × Option ℚ))
       (none_eligible (w + r + r) b (table_of t) g.suits)
 
   -- ---- and back
+  -- each artificial column has the value 0 in the tableau
   artificial_zero : (i : ℕ) → i < r → value_at t (w + r + i) ≡ 0ℚ
   artificial_zero i l =
       let k : ℕ = w + r + i in
@@ -98,17 +110,20 @@ module _ (limit : Option ℕ) (m : Model) (ls : List (Option ℚ × Option ℚ))
       let y : Some (value_at t k) ≡ Some 0ℚ = sym z ∙ (fixed_after (formed m ls) (formed_proper m ls h) i l).0 in
       cc
 
+  -- the activity of row i at the tableau's point is the value of the row's logical column
   row_value : (i : ℕ) → i < r → activity m (point t) i ≡ value_at t (w + i)
   row_value i p =
       sum_below_same w _ (λ j. coefficient m i j *ℚ value_at t j)
       (λ j q. ap (λ a. coefficient m i j *ℚ a) (x_at j q))
       ∙ logical_is_row m ls h (λ _. 1ℚ) (value_at t) artificial_zero i p (tableau.solves i p)
 
+  -- the multiplier of row i is the negative of the weight with which the row goes into the reduced costs
   multiplier : (i : ℕ) → i < r → part (multipliers t) i ≡ neg_ℚ (tableau.costs.weights i)
   multiplier i p =
       y_at i p ∙ weight_at m ls h (λ _. 1ℚ)
       (cost_at (formed m ls).cost) (reduced_at t) tableau.costs.weights tableau.costs.less i p (cost_other m ls h i)
 
+  -- the model's reduced cost of column j at the tableau's multipliers is that of the tableau
   reduced_is : (j : ℕ) → j < w → reduced m (multipliers t) j ≡ reduced_at t j
   reduced_is j p =
       sym (column_at m ls h (λ _. 1ℚ) (cost_at (formed m ls).cost) (reduced_at t)
@@ -116,24 +131,28 @@ module _ (limit : Option ℕ) (m : Model) (ls : List (Option ℚ × Option ℚ))
       ∙ ap₂ (λ a c. a -ℚ c) (cost_structural m ls h j p)
       (sum_below_same r _ _ (λ i q. ap (λ a. a *ℚ coefficient m i j) (sym (multiplier i q)))))
 
-  -- the bounds of a column and the limits of a row
+  -- the model's lower bound of column j is that of the form
   structural_lower : (j : ℕ) → j < w → (bounds m j).lower ≡ b.lower j
   structural_lower j l =
       sym ((bounded (formed m ls) (formed_proper m ls h)).lower j (omega (arith, l)) ∙ lower_structural m ls h j l)
 
+  -- the model's upper bound of column j is that of the form
   structural_upper : (j : ℕ) → j < w → (bounds m j).upper ≡ b.upper j
   structural_upper j l =
       sym ((bounded (formed m ls) (formed_proper m ls h)).upper j (omega (arith, l)) ∙ upper_structural m ls h j l)
 
+  -- the lower limit of row i is the form's lower bound of the row's logical column
   logical_lower : (i : ℕ) → i < height m → (limits m i).lower ≡ (form_bounds (formed m ls)).lower (width m + i)
   logical_lower i l =
       sym ((bounded (formed m ls) (formed_proper m ls h)).lower (w + i) (omega (arith, l)) ∙ lower_logical m ls h i l)
 
+  -- the upper limit of row i is the form's upper bound of the row's logical column
   logical_upper : (i : ℕ) → i < height m → (limits m i).upper ≡ (form_bounds (formed m ls)).upper (width m + i)
   logical_upper i l =
       sym ((bounded (formed m ls) (formed_proper m ls h)).upper (w + i) (omega (arith, l)) ∙ upper_logical m ls h i l)
 
   module _ (c : ChecksOptimal m (point t) (multipliers t)) where
+    -- where the point and multipliers show the optimum, each basic value of the tableau is within its bounds
     inside_at : (k : ℕ) → k < w + r + r → status_at t k ≡ Basic → IsInside (b.lower k) (b.upper k) (value_at t k)
     inside_at k l s =
         by_kind w r k
@@ -154,6 +173,8 @@ module _ (limit : Option ℕ) (m : Model) (ls : List (Option ℚ × Option ℚ))
               upper = subst₂ (λ o v. IfSome o (λ k. v ≤ℚ k)) q e i.upper;
             }
 
+    -- where the point and multipliers show the optimum, the reduced cost of each column that is not fixed suits its
+    -- status
     suits_at : IsDualFeasible (w + r + r) b (table_of t)
     suits_at k l n =
         by_kind w r k
@@ -175,6 +196,7 @@ module _ (limit : Option ℕ) (m : Model) (ls : List (Option ℚ × Option ℚ))
             (λ a. sym q ∙ i.below (subst (λ d. d <ℚ 0ℚ) (sym e) a) ∙ ap Some z)
             (λ o. n (value_at t k, o.0, o.1))
 
+  -- the tableau's point and multipliers show the optimum of the model exactly where the tableau is good
   pub checks_good : ChecksOptimal m (point t) (multipliers t) ↔
       IsGood (width m + height m + height m) (form_bounds (formed m ls)) (table_of t)
   checks_good = (λ c. record { inside = inside_at c; suits = suits_at c }, good_checks)

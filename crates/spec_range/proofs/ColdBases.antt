@@ -23,10 +23,11 @@ use Rattle.spec_range.proofs.EndBases.{bases_keep}
 
 module _ (limit : Option ℕ) (budget : ℕ) (m : Model) (answer : Known ℚ) (cert : Certificate (List ℚ))
     (left : List Status) (pivots : ℕ) where
+  -- the end of the cold solve with this answer, certificate, basis and count of pivots
   abbrev end : ExactSolveEnd
   end = outcome.Ended answer cert (Some left) pivots
 
-  -- what the check leaves is the basis that it was given
+  -- where the check of a certificate ends with an answer and a basis, that is the basis that was given to the check
   basis_is : (c : Certificate (List ℚ)) (basis : Option (List Status)) (p : ℕ) (o : Result (Known ℚ) (CheckStop ℚ)) →
       checked c basis p o ≡ outcome.Ended answer cert (Some left) pivots → basis ≡ Some left
   basis_is c basis p (Ok a) h =
@@ -36,6 +37,7 @@ module _ (limit : Option ℕ) (budget : ℕ) (m : Model) (answer : Known ℚ) (c
   basis_is c basis p (Err (check.No n)) h =
       let z : ◌≡◌ {A = ExactSolveEnd} outcome.Spent (outcome.Ended answer cert (Some left) pivots) = h in cc
 
+  -- where the cold solve of a model ends with an answer and a basis, this basis keeps the model
   pub cold_keeps : cold limit budget m ≡ outcome.Ended answer cert (Some left) pivots → Keeps m left
   unfolding cold
   cold_keeps h = with_form (form_of limit m) refl h

@@ -27,7 +27,7 @@ use Rattle.spec_range.proofs.RangedTableau.{form_bounds}
 use Rattle.spec_range.proofs.Checked.{IsGood, parts, tableau, x_at, checks_good}
 use Rattle.spec_range.proofs.Exists.{skeleton, start_exists, form_exists}
 
--- the same bounds of the n columns
+-- b and c have the same lower and upper bounds of the first n columns
 pub record SameBounds (n : ℕ) (b c : Bounds) : Type 0 where
   pub lower : (k : ℕ) → k < n → b.lower k ≡ c.lower k
   pub upper : (k : ℕ) → k < n → b.upper k ≡ c.upper k
@@ -70,6 +70,7 @@ good_same n b c t u bounds status value reduced g = record {
       (g.suits k h (λ z. f (same_fixed n b c bounds k h z)));
 }
   where
+    -- what is within the bounds of b by the one table is within those of c by the other
     inside_at : (k : ℕ) → k < n → IsInside (b.lower k) (b.upper k) (t.value k) →
         IsInside (c.lower k) (c.upper k) (u.value k)
     inside_at k h i = record {
@@ -80,9 +81,11 @@ good_same n b c t u bounds status value reduced g = record {
 module _ (m other : Model) (ls : List (Option ℚ × Option ℚ)) (basis : List Status)
     (fits : IsBasisOf (formed m ls) basis) (h : Limited m ls) (t : Tableau)
     (ok : start_from None (formed m ls) basis ≡ Ok t) where
+  -- the form of the first model
   abbrev f : Form
   f = formed m ls
 
+  -- the count of the form's columns, with the logical and artificial ones
   abbrev n : ℕ
   n = f.cols + f.rows + f.rows
 
@@ -149,7 +152,7 @@ module _ (m other : Model) (ls : List (Option ℚ × Option ℚ)) (basis : List 
               let e : width other ≡ f.cols = ap (λ (z : Form). z.cols) (sym (s.skeleton l)) in
               omega (arith, p, e)
 
-    -- there is one
+    -- the other model has a form, whose limits are those of its rows, and the basis has a tableau there
     record Other : Type 0 where
       limits : List (Option ℚ × Option ℚ)
       limited : Limited other limits
@@ -157,6 +160,7 @@ module _ (m other : Model) (ls : List (Option ℚ × Option ℚ)) (basis : List 
       tableau : Tableau
       started : start_from None (formed other limits) basis ≡ Ok tableau
 
+    -- the other model has a form in which the basis has a tableau
     exists : Other
     exists =
         let a = form_exists other s.ordered in
@@ -164,6 +168,7 @@ module _ (m other : Model) (ls : List (Option ℚ × Option ℚ)) (basis : List 
         let q = start_exists f (formed other p.0) basis t (s.skeleton p.0) ok in
         record { limits = p.0; limited = p.1; formed_ = a.1 ∙ ap Ok (sym p.2); tableau = q.0; started = q.1 }
 
+    -- where the moved table is good for its bounds, the basis keeps the other model
     pub good_keeps : IsGood ((formed m ls).cols + (formed m ls).rows + (formed m ls).rows) b u → Keeps other basis
     good_keeps g =
         let o = exists in
@@ -178,6 +183,7 @@ module _ (m other : Model) (ls : List (Option ℚ × Option ℚ)) (basis : List 
               ((good_other o.limits o.limited o.tableau o.started).0 g);
         }
 
+    -- where the moved table is good for its bounds, the other model's optimal value is that of the table's values
     pub good_optimal : IsGood ((formed m ls).cols + (formed m ls).rows + (formed m ls).rows) b u →
         IsOptimal other (sum_below (width other) (λ j. cost other j *ℚ u.value j) +ℚ other.offset)
     good_optimal g =
@@ -187,6 +193,7 @@ module _ (m other : Model) (ls : List (Option ℚ × Option ℚ)) (basis : List 
         ((checks_good None other o.limits o.limited basis (s.still_fits o.limits o.limited) o.tableau o.started).1
         ((good_other o.limits o.limited o.tableau o.started).0 g)))
 
+    -- where the basis keeps the other model, the moved table is good for its bounds
     pub keeps_good : Keeps other basis → IsGood ((formed m ls).cols + (formed m ls).rows + (formed m ls).rows) b u
     keeps_good k =
         let p = form_is None other k.form k.formed in

@@ -41,7 +41,8 @@ sense_not_zero Max a n = λ e. n (sym (neg-neg a) ∙ ap neg_ℚ e ∙ neg-zero)
 one_not_zero : neg_ℚ 1ℚ ≢ 0ℚ
 one_not_zero e = <ℚ_irrefl 0ℚ (subst (λ a. 0ℚ <ℚ a) (sym (neg-neg 1ℚ) ∙ ap neg_ℚ e ∙ neg-zero) zero-lt-one)
 
--- as a basic column's cost goes from c to v, a reduced cost is its entry times its end less v, signed
+-- as a basic column's cost goes from c to v, the reduced cost of a column with the entry a becomes a, with the sign of
+-- the sense, times what its end is above v
 moved_is : (s : Sense) (d a c v : ℚ) → a ≢ 0ℚ →
     d +ℚ (least_cost s v -ℚ least_cost s c) *ℚ (0ℚ -ℚ a)
     ≡ least_cost s a *ℚ ((c +ℚ least_cost s d *ℚ inverse a) -ℚ v)
@@ -65,7 +66,8 @@ moved_is s d a c v n = by s (inverse a) (*ℚ_inverse a n)
         one d ((neg_ℚ v -ℚ neg_ℚ c) *ℚ (0ℚ -ℚ a))
         ∙ ap (λ x. x *ℚ d +ℚ (neg_ℚ v -ℚ neg_ℚ c) *ℚ (0ℚ -ℚ a)) (sym e) ∙ sym (greatest d a c v i)
 
--- as a nonbasic column's cost goes from c to v, its own reduced cost is v less its end, signed
+-- as a nonbasic column's cost goes from c to v, its own reduced cost becomes what v is above its end, with the sign of
+-- the sense
 own_is : (s : Sense) (d c v : ℚ) →
     d +ℚ (least_cost s v -ℚ least_cost s c) *ℚ (1ℚ -ℚ 0ℚ) ≡ least_cost s (neg_ℚ 1ℚ) *ℚ ((c -ℚ least_cost s d) -ℚ v)
 own_is Min d c v = least d c v
@@ -84,22 +86,26 @@ still_is d x = simp ring
 module _ (limit : Option ℕ) (s : Sense) (c : ℚ) (t : Tableau) (n : ℕ) (n_is : all_columns t ≡ n) (b : Bounds)
     (low : (k : ℕ) → lower_at t k ≡ b.lower k) (high : (k : ℕ) → upper_at t k ≡ b.upper k)
     (good : IsGood n b (table_of t)) (j : ℕ) (j_in : j < n) where
+  -- by how much the form's cost grows as the model's goes from c to v: v less c, negated where the sense is Max
   abbrev growth : ℚ → ℚ
   growth v = least_cost s v -ℚ least_cost s c
 
-  -- what column k asks of the cost v
+  -- the reduced cost that column k has with the cost v, where e is the row of column j or 0, suits its status, unless k
+  -- is fixed
   abbrev Wants : (ℕ → ℚ) → ℚ → ℕ → Type 0
   Wants e v k = ¬ (IsFixed b k) → Suits (status_at t k) (reduced_at t k +ℚ growth v *ℚ (delta j k -ℚ e k))
 
+  -- a column that tests as fixed is fixed by the bounds
   fixed_is : (k : ℕ) → is_fixed (lower_at t k) (upper_at t k) ≡ true → IsFixed b k
   fixed_is k e =
       let v = fixed_means (lower_at t k) (upper_at t k) e in (v.0, sym (low k) ∙ v.1, sym (high k) ∙ v.2)
 
+  -- a column that does not test as fixed is not fixed by the bounds
   free_is : (k : ℕ) → is_fixed (lower_at t k) (upper_at t k) ≡ false → ¬ (IsFixed b k)
   free_is k e v =
       let z : false ≡ true = sym e ∙ fixed_test (lower_at t k) (upper_at t k) v.0 (low k ∙ v.1) (high k ∙ v.2) in cc
 
-  -- a column whose reduced cost does not move wants nothing
+  -- each cost v suits a column whose reduced cost does not move
   still_wants : (e : ℕ → ℚ) (v : ℚ) (k : ℕ) → k < n → delta j k ≡ 0ℚ → e k ≡ 0ℚ → Wants e v k
   still_wants e v k k_in p q f =
       subst (Suits (status_at t k))
@@ -108,16 +114,19 @@ module _ (limit : Option ℕ) (s : Sense) (c : ℚ) (t : Tableau) (n : ℕ) (n_i
 
   -- ---- column j is basic, at position p
   module _ (basic : status_at t j ≡ Basic) (p : ℕ) where
+    -- the reduced cost that column k has with the cost v of the basic column j suits its status, unless k is fixed
     abbrev wants : ℚ → ℕ → Type 0
     wants v k = Wants (entry_at t p) v k
 
+    -- a nonbasic column is another one than the basic column j
     elsewhere : (k : ℕ) → ¬ (status_at t k ≡ Basic) → delta j k ≡ 0ℚ
     elsewhere k free = delta_other j k (λ z. free (ap (status_at t) (sym z) ∙ basic))
 
-    -- what the ends say before column k
+    -- the ends e have exactly the costs that suit all columns before column i
     abbrev Meant : ℕ → Ends ℚ → Type 0
     Meant i e = (v : ℚ) → IsIn e v ↔ ((k : ℕ) → k < i → wants v k)
 
+    -- each cost suits a column whose reduced cost does not move, or that is basic or fixed
     unmoved : (k : ℕ) → k < n → is_moved t p k ≡ false → (v : ℚ) → Wants (entry_at t p) v k
     unmoved k k_in q v =
         by (is_basic (status_at t k)) (is_fixed (lower_at t k) (upper_at t k)) (eq_ℚ (entry_at t p k) 0ℚ) refl refl refl q
@@ -134,6 +143,7 @@ module _ (limit : Option ℕ) (s : Sense) (c : ℚ) (t : Tableau) (n : ℕ) (n_i
             (eq_if (entry_at t p k) 0ℚ e) f
         by false false false a d e o f = let z : true ≡ false = o in cc
 
+    -- the ends with those of a column whose reduced cost moves have the costs from before that suit this column
     moved_ok : (k : ℕ) (e x : Ends ℚ) → is_moved t p k ≡ true → moved_ends limit s c t p k e ≡ Ok x →
         (v : ℚ) → IsIn x v ↔ (IsIn e v × wants v k)
     moved_ok k e x q h v =
@@ -159,6 +169,7 @@ module _ (limit : Option ℕ) (s : Sense) (c : ℚ) (t : Tableau) (n : ℕ) (n_i
           λ r. (cuts v).1 (r.0, subst (Suits (status_at t k)) (sym same) (r.1 (free_is k i.0))),
         )
 
+    -- ends that have the costs which suit all columns before k have, with those of column k, the costs which suit k too
     step : (k : ℕ) (x y : Ends ℚ) → k < n → Meant k x →
         cond (is_moved t p k) (moved_ends limit s c t p k x) (Ok x) ≡ Ok y → Meant (suc k) y
     step k x y k_in was h v = by (is_moved t p k) refl h
@@ -180,6 +191,8 @@ module _ (limit : Option ℕ) (s : Sense) (c : ℚ) (t : Tableau) (n : ℕ) (n_i
             join (Unit {0}) (subst (λ y. IsIn y v ↔ (IsIn x v × Unit {0})) z (λ r. (r, tt), λ r. r.0))
             (λ _. unmoved k k_in q v, λ _. tt)
 
+    -- the ends for the cost of a basic column have exactly the costs with which the reduced cost of each column that is
+    -- not fixed suits its status
     pub basic_ok : (x : Ends ℚ) → basic_ends limit s c t p ≡ Ok x → (v : ℚ) →
         IsIn x v ↔ ((k : ℕ) → k < n → ¬ (IsFixed b k) →
         Suits (status_at t k) (reduced_at t k +ℚ (least_cost s v -ℚ least_cost s c) *ℚ (delta j k -ℚ entry_at t p k)))
@@ -192,12 +205,15 @@ module _ (limit : Option ℕ) (s : Sense) (c : ℚ) (t : Tableau) (n : ℕ) (n_i
 
   -- ---- column j is not basic
   module _ (free : ¬ (status_at t j ≡ Basic)) where
+    -- the reduced cost that column k has with the cost v of the nonbasic column j suits its status, unless k is fixed
     abbrev own_wants : ℚ → ℕ → Type 0
     own_wants v k = Wants (λ _. 0ℚ) v k
 
+    -- each cost of the nonbasic column j suits each other column
     elsewhere_own : (v : ℚ) (k : ℕ) → k < n → k ≢ j → own_wants v k
     elsewhere_own v k k_in z = still_wants (λ _. 0ℚ) v k k_in (delta_other j k (λ y. z (sym y))) refl
 
+    -- where column j is not fixed, the cost at which its reduced cost is 0 is c less this, with the sign of the sense
     number_ok : (st : Status) → status_at t j ≡ st → ¬ (IsFixed b j) → (x : ℚ) →
         own_number limit s c st (reduced_at t j) ≡ Ok x → x ≡ c -ℚ least_cost s (reduced_at t j)
     number_ok Basic e f x h = absurd (free e)
@@ -212,6 +228,8 @@ module _ (limit : Option ℕ) (s : Sense) (c : ℚ) (t : Tableau) (n : ℕ) (n_i
         none Min = simp ring
         none Max = simp ring
 
+    -- the ends for the cost of a nonbasic column have exactly the costs with which the reduced cost of each column that
+    -- is not fixed suits its status
     pub own_ok : (x : Ends ℚ) → own_ends limit s c t j ≡ Ok x → (v : ℚ) →
         IsIn x v ↔ ((k : ℕ) → k < n → ¬ (IsFixed b k) →
         Suits (status_at t k) (reduced_at t k +ℚ (least_cost s v -ℚ least_cost s c) *ℚ (delta j k -ℚ 0ℚ)))

@@ -81,21 +81,26 @@ kept limit m basis f t formed_ k ok =
 
 module _ (limit : Option ℕ) (m : Model) (ls : List (Option ℚ × Option ℚ)) (h : Limited m ls) (basis : List Status)
     (fits : IsBasisOf (formed m ls) basis) (t : Tableau) (ok : start_from limit (formed m ls) basis ≡ Ok t) where
+  -- the tableau has as many columns as the form, with the logical and artificial ones
   pub columns_are : all_columns t ≡ width m + height m + height m
   columns_are =
       let p = parts limit m ls h basis fits t ok in
       let r : t.rows ≡ height m = p.rows in let c : t.cols ≡ width m = p.cols in omega (arith, r, c)
 
+  -- the tableau's lower bound of column k is that of the form
   pub low : (k : ℕ) → lower_at t k ≡ (form_bounds (formed m ls)).lower k
   low k = ap (λ l. get_or l k None) (parts limit m ls h basis fits t ok).lower
 
+  -- the tableau's upper bound of column k is that of the form
   pub high : (k : ℕ) → upper_at t k ≡ (form_bounds (formed m ls)).upper k
   high k = ap (λ l. get_or l k None) (parts limit m ls h basis fits t ok).upper
 
   module _ (checks : ChecksOptimal m (point t) (multipliers t)) where
+    -- the tableau of a basis that keeps the model is good for the bounds of its form
     pub good : IsGood (width m + height m + height m) (form_bounds (formed m ls)) (table_of t)
     good = (checks_good limit m ls h basis fits t ok).0 checks
 
+    -- the optimal value is the sum of the costs times the tableau's values, plus the offset
     pub v_is : (v : ℚ) → IsOptimal m v →
         v ≡ sum_below (width m) (λ k. cost m k *ℚ value_at t k) +ℚ m.offset
     v_is v optimal =
@@ -107,13 +112,16 @@ module _ (limit : Option ℕ) (m : Model) (ls : List (Option ℚ × Option ℚ))
     (fits : IsBasisOf (formed m ls) basis) (t : Tableau) (ok : start_from None (formed m ls) basis ≡ Ok t)
     (checks : ChecksOptimal m (point t) (multipliers t)) (j : ℕ) (j_in : j < width m) (v : ℚ)
     (optimal : IsOptimal m v) where
+  -- the count of the form's columns, with the logical and artificial ones
   abbrev n : ℕ
   n = width m + height m + height m
 
+  -- the tableau of the basis is good for the bounds of the form
   kept_good : IsGood (width m + height m + height m) (form_bounds (formed m ls)) (table_of t)
   kept_good = good None m ls h basis fits t ok checks
 
-  -- the value with another cost
+  -- with the cost x of column j the tableau's values give the optimal value, plus what x is above the old cost times
+  -- column j's value
   value_is : (x : ℚ) → sum_below (width (with_cost m j x)) (λ k. cost (with_cost m j x) k *ℚ value_at t k) +ℚ m.offset
       ≡ v +ℚ (x -ℚ cost m j) *ℚ value_at t j
   value_is x =
@@ -156,14 +164,17 @@ module _ (limit : Option ℕ) (m : Model) (ls : List (Option ℚ × Option ℚ))
       (meant : (x : ℚ) → IsIn ends x ↔ ((k : ℕ) → k < n → ¬ (IsFixed (form_bounds (formed m ls)) k) →
       Suits (status_at t k)
       (reduced_at t k +ℚ (least_cost m.sense x -ℚ least_cost m.sense (cost m j)) *ℚ (delta j k -ℚ e k)))) where
+    -- the table with the reduced costs for the cost x is that of the model with this cost of column j
     moved : (x : ℚ) → IsMoved m (with_cost m j x) ls basis fits h t ok (costs_with m ls h basis fits t ok j j_in x)
         (form_bounds (formed m ls)) (repriced (table_of t) j (growth m j x) e)
     moved = is_moved m ls h basis fits t ok j j_in e row
 
+    -- with a cost within the ends, the table with its reduced costs is good
     good_in : (x : ℚ) → IsIn ends x →
         IsGood n (form_bounds (formed m ls)) (repriced (table_of t) j (growth m j x) e)
     good_in x i = record { inside = kept_good.inside; suits = (meant x).0 i }
 
+    -- these ends, with column j's value as the slope, are the range of its cost
     range_is : IsRange (with_cost m j) basis (cost m j) v (record { ends = ends; slope = value_at t j })
     range_is = record {
       inside = λ x k. (meant x).1 (keeps_good m (with_cost m j x) ls basis fits h t ok _ _ _ (moved x) k).suits;
@@ -172,6 +183,7 @@ module _ (limit : Option ℕ) (m : Model) (ls : List (Option ℚ × Option ℚ))
           (good_optimal m (with_cost m j x) ls basis fits h t ok _ _ _ (moved x) (good_in x i));
     }
 
+  -- what the run over the tableau finds is the range of the cost of column j
   run_ok : (r : Range ℚ) → cost_run limit m t j ≡ Ok r → IsRange (with_cost m j) basis (cost m j) v r
   unfolding cost_run
   run_ok r q =

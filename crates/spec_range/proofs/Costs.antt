@@ -35,9 +35,11 @@ use Rattle.spec_range.proofs.RangedTableau.{form_bounds, bounded}
 
 -- ---- the other model
 module _ (m : Model) (j : ℕ) (j_in : j < width m) (v : ℚ) where
+  -- the model in which column j has the cost v
   abbrev other : Model
   other = with_cost m j v
 
+  -- the model with another cost of column j has as many columns as the model
   pub other_width : width (with_cost m j v) ≡ width m
   other_width = length-set m.columns j (record (column m j) { cost = v })
 
@@ -51,22 +53,27 @@ module _ (m : Model) (j : ℕ) (j_in : j < width m) (v : ℚ) where
       ∙ ap (λ k. p (column m k)) (sym z))
       (λ z. ap p (get_or-set_other m.columns j k (record (column m j) { cost = v }) no_column z))
 
+  -- column k has the same lower bound in the model with another cost of column j
   pub lower_same : (k : ℕ) → (bounds (with_cost m j v) k).lower ≡ (bounds m k).lower
   lower_same = column_same (λ c. c.lower) refl
 
+  -- column k has the same upper bound in the model with another cost of column j
   pub upper_same : (k : ℕ) → (bounds (with_cost m j v) k).upper ≡ (bounds m k).upper
   upper_same = column_same (λ c. c.upper) refl
 
+  -- in the model with the cost v of column j this column has the cost v
   pub cost_there : cost (with_cost m j v) j ≡ v
   cost_there =
       ap (λ (c : ExactColumn). c.cost)
       (get_or-set_same m.columns j (record (column m j) { cost = v }) no_column j_in)
 
+  -- each other column than j has its old cost in the model with another cost of column j
   pub cost_elsewhere : (k : ℕ) → k ≢ j → cost (with_cost m j v) k ≡ cost m k
   cost_elsewhere k z =
       ap (λ (c : ExactColumn). c.cost)
       (get_or-set_other m.columns j k (record (column m j) { cost = v }) no_column z)
 
+  -- the forms of the model and of that with another cost of column j differ in bounds and costs alone
   pub skeleton_same : (ls l : List (Option ℚ × Option ℚ)) →
       skeleton (formed m ls) ≡ skeleton (formed (with_cost m j v) l)
   skeleton_same ls l =
@@ -81,31 +88,39 @@ module _ (m : Model) (j : ℕ) (j_in : j < width m) (v : ℚ) where
       (sym other_width)
       (sym (map-set_same (λ (c : ExactColumn). c.entries) m.columns j (record (column m j) { cost = v }) no_column refl))
 
--- by how much the form's cost grows
+-- by how much the form's cost of column j grows where the model's goes to v: v less the old cost, negated where the
+-- sense is Max
 abbrev pub growth : Model → ℕ → ℚ → ℚ
 growth m j v = least_cost m.sense v -ℚ least_cost m.sense (cost m j)
 
 module _ (m : Model) (ls : List (Option ℚ × Option ℚ)) (h : Limited m ls) (basis : List Status)
     (fits : IsBasisOf (formed m ls) basis) (t : Tableau) (ok : start_from None (formed m ls) basis ≡ Ok t)
     (j : ℕ) (j_in : j < width m) where
+  -- the count of the model's columns
   abbrev w : ℕ
   w = width m
 
+  -- the count of the model's rows
   abbrev r : ℕ
   r = height m
 
+  -- the count of the form's columns, with the logical and artificial ones
   abbrev n : ℕ
   n = w + r + r
 
+  -- the bounds of the model's form
   abbrev b : Bounds
   b = form_bounds (formed m ls)
 
+  -- the basis's tableau is one of the form's equations, costs and bounds
   g : IsTableau r n (equations (formed m ls)) (cost_at (formed m ls).cost) b (table_of t)
   g = tableau None m ls h basis fits t ok
 
+  -- the form's costs with the cost v of column j in place of the old one
   abbrev pub costs_with : ℚ → ℕ → ℚ
   costs_with v k = cost_at (formed m ls).cost k +ℚ growth m j v *ℚ delta j k
 
+  -- the costs of the form of the model with the cost v of column j are the form's with v in place of the old one
   costs_are : (v : ℚ) (l : List (Option ℚ × Option ℚ)) → Limited (with_cost m j v) l → (k : ℕ) →
       cost_at (formed (with_cost m j v) l).cost k ≡ costs_with v k
   costs_are v l hl k = by_lt k w structural others
@@ -143,6 +158,7 @@ module _ (m : Model) (ls : List (Option ℚ × Option ℚ)) (h : Limited m ls) (
           none : (d : ℚ) → 0ℚ ≡ 0ℚ +ℚ d *ℚ 0ℚ
           none d = simp ring
 
+  -- the form of the model with another cost has the same bounds
   bounds_are : (v : ℚ) (l : List (Option ℚ × Option ℚ)) → Limited (with_cost m j v) l →
       SameBounds n (form_bounds (formed (with_cost m j v) l)) b
   bounds_are v l hl =
@@ -154,6 +170,7 @@ module _ (m : Model) (ls : List (Option ℚ × Option ℚ)) (h : Limited m ls) (
       (λ i q. (sym (logical_low m ls h i q), sym (logical_high m ls h i q)))
       (λ i q. (artificial_low m ls h i q, artificial_high m ls h i q))
 
+  -- the basis fits the form of the model with another cost
   fits_still : (v : ℚ) (l : List (Option ℚ × Option ℚ)) → Limited (with_cost m j v) l →
       IsBasisOf (formed (with_cost m j v) l) basis
   fits_still v l hl =
@@ -173,6 +190,7 @@ module _ (m : Model) (ls : List (Option ℚ × Option ℚ)) (h : Limited m ls) (
     pub combined : (k : ℕ) → e k ≡ sum_below (height m) (λ i. weights i *ℚ equations (formed m ls) i k)
     pub at_basic : (i : ℕ) → i < height m → e (basic_at t i) ≡ delta j (basic_at t i)
 
+  -- where column j is basic at position p, the tableau's row p is the row of column j
   pub basic_row : (p : ℕ) → p < height m → basic_at t p ≡ j → IsRowOf (entry_at t p)
   basic_row p p_in e = record {
     weights = g.forth.0 p;
@@ -185,6 +203,7 @@ module _ (m : Model) (ls : List (Option ℚ × Option ℚ)) (h : Limited m ls) (
         (λ y. z (sym (apart r (entry_at t) (basic_at t) g.units p i p_in i_in (e ∙ y))))));
   }
 
+  -- where column j is not basic, zeros are the row of column j
   pub no_row : ¬ (status_at t j ≡ Basic) → IsRowOf (λ k. 0ℚ)
   no_row free = record {
     weights = λ i. 0ℚ;
@@ -194,9 +213,11 @@ module _ (m : Model) (ls : List (Option ℚ × Option ℚ)) (h : Limited m ls) (
   }
 
   module _ (e : ℕ → ℚ) (row : IsRowOf e) where
+    -- the tableau's table with the reduced costs that the cost v of column j gives
     abbrev moved : ℚ → Table
     moved v = repriced (table_of t) j (growth m j v) e
 
+    -- the table with the reduced costs that the cost v gives is that of the model with this cost of column j
     pub is_moved : (v : ℚ) → IsMoved m (with_cost m j v) ls basis fits h t ok (costs_with v)
         (form_bounds (formed m ls)) (repriced (table_of t) j (growth m j v) e)
     is_moved v = record {

@@ -27,9 +27,11 @@ use Rattle.spec_range.proofs.EndKeeps.{end_keeps}
 
 module _ (limit : Option ℕ) (m : Model) (ls : List (Option ℚ × Option ℚ)) (h : Limited m ls)
     (formed_ : form_of None m ≡ Ok (formed m ls)) where
+  -- the basis that both phases leave, if they leave one, keeps the model
   abbrev Leaves : PhasesEnd → Type 0
   Leaves e = (left : List Status) → cold.basis_of e ≡ Some left → Keeps m left
 
+  -- where phase two ends, the basis that it leaves keeps the model
   finished : (t : Tableau) (s : Started (formed m ls) t) (one : PrimalEnded) (o : IsFirst limit m ls h t s one)
       (free : is_stuck one.tableau ≡ false) (u : Tableau) (ok : phase_two_run limit (formed m ls) one.tableau ≡ Ok u)
       (e : PrimalEnded) → IsEnd limit (height m) (width m) (form_rows (formed m ls) (signs_of s.starts))
@@ -53,11 +55,13 @@ module _ (limit : Option ℕ) (m : Model) (ls : List (Option ℚ × Option ℚ))
           (primal_shows m ls h (signs_of s.starts) (bounds_of u) (second_bounds limit m ls h t s one o free u ok)
           (second_fixed limit m ls h t s one o free u ok) limit e d.after d.within d.end).checks))
 
+  -- where both phases end, the basis that they leave keeps the model
   leaves : (budget : ℕ) (e : PhasesEnd) → phases_run limit budget (formed m ls) ≡ Ok e → Leaves e
   leaves budget =
       by_phases limit m ls h budget Leaves
       (λ t s one o stuck left r. let z : None ≡ Some left = r in cc) finished
 
+-- where both phases of a model's form end and leave a basis, this basis keeps the model
 pub bases_keep : (limit : Option ℕ) (budget : ℕ) (m : Model) (f : Form) (e : PhasesEnd) (left : List Status) →
     form_of limit m ≡ Ok f → phases_run limit budget f ≡ Ok e → cold.basis_of e ≡ Some left → Keeps m left
 bases_keep limit budget m f e left p q r =

@@ -49,37 +49,47 @@ module _ (m : Model) (ls : List (Option ℚ × Option ℚ)) (h : Limited m ls)
     (g : IsTableau (height m) (width m + height m + height m) (form_rows (formed m ls) signs)
     (cost_at (formed m ls).cost) b (table_of t))
     (none : (i : ℕ) → i < height m → value_at t (width m + height m + i) ≡ 0ℚ) where
+  -- the model's form
   abbrev f : Form
   f = formed m ls
 
+  -- the count of the model's columns
   abbrev w : ℕ
   w = width m
 
+  -- the count of the model's rows
   abbrev r : ℕ
   r = height m
 
+  -- the count of the form's columns, with the logical and artificial ones
   abbrev n : ℕ
   n = w + r + r
 
+  -- the equations of the form whose artificial columns have the signs of the start
   abbrev F : Matrix
   F = form_rows f signs
 
+  -- the basis that the last tableau leaves
   abbrev left : List Status
   left = made (form_columns t) (cold.basis_status t)
 
+  -- the basis that is left fits the model's form
   fits : IsBasisOf (formed m ls) left
   fits = basis_fits f signs squares (cost_at f.cost) b bs t rows cols g
 
   -- ---- the basis by columns
+  -- the basis that is left gives column k the status that the last tableau leaves it
   left_is : (k : ℕ) → k < w + r → basis_at left k ≡ cold.basis_status t k
   left_is k l = get_or-made (form_columns t) (cold.basis_status t) k Basic (omega (arith, l, rows, cols))
 
+  -- the basis that is left gives a column of the model its status in the last tableau
   structural_is : (k : ℕ) → k < w → basis_at left k ≡ status_at t k
   structural_is k l =
       left_is k (omega (arith, l))
       ∙ ap (λ c. cond (c && is_basic (status_at t (k + t.rows))) Basic (status_at t k))
       (lt-leb t.cols k (omega (arith, l, cols)))
 
+  -- the basis that is left has row i's logical basic if the row's artificial is basic, else with its own status
   logical_is : (i : ℕ) → i < r →
       basis_at left (w + i) ≡ cond (is_basic (status_at t (w + r + i))) Basic (status_at t (w + i))
   logical_is i l =
@@ -106,6 +116,7 @@ module _ (m : Model) (ls : List (Option ℚ × Option ℚ)) (h : Limited m ls)
       by i false e free = (λ s. free (e ∙ s), e)
 
   -- ---- sums over the equations of both signs, which differ in the artificials alone
+  -- below the artificial columns the equations of both signs are the same
   alike : (i k : ℕ) → k < w + r → F i k ≡ equations f i k
   alike i k l =
       by_kind w r k
@@ -114,6 +125,8 @@ module _ (m : Model) (ls : List (Option ℚ × Option ℚ)) (h : Limited m ls)
       (row_logical f signs i j q ∙ sym (row_logical f (λ _. 1ℚ) i j q)))
       (λ j e. absurd (let z : ⊥ = omega (arith, l, e) in z))
 
+  -- equation i with signs for the artificials sums the columns of the model, the row's logical, and its artificial
+  -- times its sign
   sum_is : (s : ℕ → ℚ) (i : ℕ) → i < r → (z : ℕ → ℚ) →
       sum_below n (λ k. form_rows f s i k *ℚ z k)
       ≡ (sum_below w (λ k. form_rows f s i k *ℚ z k) +ℚ z (w + i)) +ℚ s i *ℚ z (w + r + i)
@@ -128,41 +141,50 @@ module _ (m : Model) (ls : List (Option ℚ × Option ℚ)) (h : Limited m ls)
       ∙ sym (*ℚ-sum_below (s i) r (λ j. delta i j *ℚ z (w + r + j)))
       ∙ ap (λ a. s i *ℚ a) (sum_below-delta r i (λ j. z (w + r + j)) l))
 
+  -- where two lists of numbers agree on the columns of the model, so do the sums of these in both equations
   structural_sum : (i : ℕ) (z y : ℕ → ℚ) → ((k : ℕ) → k < w → z k ≡ y k) →
       sum_below w (λ k. F i k *ℚ z k) ≡ sum_below w (λ k. equations f i k *ℚ y k)
   structural_sum i z y e = sum_below_same w _ _ (λ k q. ap₂ ◌*ℚ◌ (alike i k (omega (arith, q))) (e k q))
 
   -- ---- the basis is not singular
-  -- numbers for its columns, as numbers for those of the tableau: an artificial that is basic takes over
+  -- row i's logical number where its artificial is not basic; else 0
   abbrev taken : (ℕ → ℚ) → Bool → ℕ → ℚ
   taken x true i = 0ℚ
   taken x false i = x (w + i)
 
+  -- row i's logical number, with the sign of the row, where its artificial is basic; else 0
   abbrev left_over : (ℕ → ℚ) → Bool → ℕ → ℚ
   left_over x true i = signs i *ℚ x (w + i)
   left_over x false i = 0ℚ
 
+  -- whether row i's artificial column is basic in the last tableau
   abbrev art : ℕ → Bool
   art i = is_basic (status_at t (w + r + i))
 
   module _ (j : ℕ) (x : ℕ → ℚ) (d : IsDependent (formed m ls) left j x) where
+    -- the numbers x, with that of a logical whose artificial is basic moved to the artificial
     abbrev y : ℕ → ℚ
     y k = by_column f k (x k) (λ i. taken x (art i) i) (λ i. left_over x (art i) i)
 
+    -- for a column of the model the moved number is x's own
     y_structural : (k : ℕ) → k < w → y k ≡ x k
     y_structural k q = structural_at f (x k) (λ i. taken x (art i) i) (λ i. left_over x (art i) i) k q
 
+    -- row i's logical has its number in x, or 0 if the row's artificial is basic
     y_logical : (i : ℕ) → i < r → y (w + i) ≡ taken x (art i) i
     y_logical i q = logical_at f (x (w + i)) (λ i. taken x (art i) i) (λ i. left_over x (art i) i) i q
 
+    -- row i's artificial, if it is basic, has the logical's number with the sign of the row; else 0
     y_artificial : (i : ℕ) → y (w + r + i) ≡ left_over x (art i) i
     y_artificial i = artificial_at f (x (w + r + i)) (λ i. taken x (art i) i) (λ i. left_over x (art i) i) i
 
+    -- a dependence of the basis that is left has 0 for each artificial column
     x_art : (i : ℕ) → x (w + r + i) ≡ 0ℚ
     x_art i =
         d.others (w + r + i) (λ e. let z : ⊥ = omega (arith, e, d.inside) in z)
         (λ o. let z : ⊥ = omega (arith, o.0, d.inside) in z)
 
+    -- the moved numbers solve the equations of the last tableau
     y_solves : (i : ℕ) → i < r → sum_below n (λ k. F i k *ℚ y k) ≡ 0ℚ
     y_solves i q =
         sum_is signs i q y
@@ -189,6 +211,7 @@ module _ (m : Model) (ls : List (Option ℚ × Option ℚ)) (h : Limited m ls)
     x_off : (k : ℕ) → k < w + r → ¬ (basis_at left k ≡ Basic) → x k ≡ 0ℚ
     x_off k l free = d.others k (λ e. free (ap (basis_at left) e ∙ d.basic)) (λ o. free o.1)
 
+    -- the moved numbers are 0 off the basic columns of the last tableau
     y_off : (k : ℕ) → k < n → ¬ (status_at t k ≡ Basic) → y k ≡ 0ℚ
     y_off k l free =
         by_kind w r k
@@ -208,6 +231,7 @@ module _ (m : Model) (ls : List (Option ℚ × Option ℚ)) (h : Limited m ls)
         artificial i true e free = absurd (free (basic_if (status_at t (w + r + i)) e))
         artificial i false e free = refl
 
+    -- the moved numbers are all 0
     y_zero : (k : ℕ) → k < n → y k ≡ 0ℚ
     y_zero k l =
         by_basic (status_at t k)
@@ -218,6 +242,7 @@ module _ (m : Model) (ls : List (Option ℚ × Option ℚ)) (h : Limited m ls)
         ∙ combined r n (entry_at t) F g.forth y y_solves p.0 p.1)
         (λ s. y_off k l s)
 
+    -- the columns of the basis that is left do not depend on each other
     dependent : ⊥
     dependent =
         by_kind w r j
@@ -238,6 +263,7 @@ module _ (m : Model) (ls : List (Option ℚ × Option ℚ)) (h : Limited m ls)
         logical i false e q a c z = one (sym z ∙ a)
 
   -- ---- its tableau
+  -- the basis that is left has a tableau in the model's form
   exists : (u : Tableau) × (start_from None (formed m ls) left ≡ Ok u)
   exists = by (start_from None f left) refl
     where
@@ -248,17 +274,21 @@ module _ (m : Model) (ls : List (Option ℚ × Option ℚ)) (h : Limited m ls)
       by (Err stop.Singular) e = let o = start_singular None f left e in absurd (dependent o.0 o.1 o.2)
 
   module _ (u : Tableau) (ok : start_from None (formed m ls) left ≡ Ok u) where
+    -- the tableau of the basis that is left is one of the form's equations, costs and bounds
     g' : IsTableau r n (equations f) (cost_at f.cost) (form_bounds f) (table_of u)
     g' = tableau None m ls h left fits u ok
 
+    -- the tableau of the basis that is left gives column k its status in this basis
     status_is : (k : ℕ) → k < w + r → status_at u k ≡ basis_at left k
     status_is k l =
         ap (λ s. get_or s k Basic) (parts None m ls h left fits u ok).status ∙ status_before f left fits k l
 
+    -- in the tableau of the basis that is left each artificial is at its lower bound
     status_art : (i : ℕ) → i < r → status_at u (w + r + i) ≡ AtLower
     status_art i l =
         ap (λ s. get_or s (w + r + i) Basic) (parts None m ls h left fits u ok).status ∙ status_after f left fits i l
 
+    -- in the tableau of the basis that is left each artificial has the value 0
     value_art : (i : ℕ) → i < r → value_at u (w + r + i) ≡ 0ℚ
     value_art i l =
         let z : (form_bounds f).lower (w + r + i) ≡ Some (value_at u (w + r + i)) =
@@ -267,10 +297,11 @@ module _ (m : Model) (ls : List (Option ℚ × Option ℚ)) (h : Limited m ls)
         let e : Some (value_at u (w + r + i)) ≡ Some 0ℚ =
         sym z ∙ (fixed_after f (formed_proper m ls h) i l).0 in cc
 
-    -- the values
+    -- by how much the value of column k differs between the tableau of the basis and the last one
     abbrev gap : ℕ → ℚ
     gap k = value_at u k -ℚ value_at t k
 
+    -- a column that is nonbasic in the basis has the same value in both tableaus
     same_value : (k : ℕ) → k < w + r → ¬ (status_at u k ≡ Basic) → value_at u k ≡ value_at t k
     same_value k l free =
         let o = not_left k l (λ e. free (status_is k l ∙ e)) in
@@ -283,6 +314,7 @@ module _ (m : Model) (ls : List (Option ℚ × Option ℚ)) (h : Limited m ls)
         (g'.stands k (omega (arith, l)))))
         (g.stands k (omega (arith, l)))
 
+    -- off the basic columns the values of both tableaus do not differ
     gap_off : (k : ℕ) → k < n → ¬ (status_at u k ≡ Basic) → gap k ≡ 0ℚ
     gap_off k l free =
         by_kind w r k
@@ -291,6 +323,7 @@ module _ (m : Model) (ls : List (Option ℚ × Option ℚ)) (h : Limited m ls)
         (λ i e. let q : i < r = omega (arith, l, e) in
         ap gap e ∙ ap₂ (λ a c. a -ℚ c) (value_art i q) (none i q) ∙ +ℚ_neg 0ℚ)
 
+    -- the values of the last tableau solve the form's equations
     t_solves : (i : ℕ) → i < r → sum_below n (λ k. equations f i k *ℚ value_at t k) ≡ 0ℚ
     t_solves i l =
         sum_is (λ _. 1ℚ) i l (value_at t)
@@ -303,6 +336,7 @@ module _ (m : Model) (ls : List (Option ℚ × Option ℚ)) (h : Limited m ls)
         still : (a s : ℚ) → a +ℚ 1ℚ *ℚ 0ℚ ≡ a +ℚ s *ℚ 0ℚ
         still a s = simp ring
 
+    -- the differences of the values solve the form's equations
     gap_solves : (i : ℕ) → i < r → sum_below n (λ k. equations f i k *ℚ gap k) ≡ 0ℚ
     gap_solves i l =
         sum_below_same n _ (λ k. equations f i k *ℚ value_at u k -ℚ equations f i k *ℚ value_at t k)
@@ -312,6 +346,7 @@ module _ (m : Model) (ls : List (Option ℚ × Option ℚ)) (h : Limited m ls)
         open_ : (a v z : ℚ) → a *ℚ (v -ℚ z) ≡ a *ℚ v -ℚ a *ℚ z
         open_ a v z = simp ring
 
+    -- both tableaus have the same values
     value_is : (k : ℕ) → k < n → value_at u k ≡ value_at t k
     value_is k l =
         from_gap (value_at u k) (value_at t k)
@@ -329,10 +364,11 @@ module _ (m : Model) (ls : List (Option ℚ × Option ℚ)) (h : Limited m ls)
             again : (a c : ℚ) → a -ℚ c +ℚ c ≡ a
             again a c = simp ring
 
-    -- the reduced costs
+    -- the cost of column k less the equations' entries times the weights of the last tableau
     abbrev lessened : ℕ → ℚ
     lessened k = cost_at f.cost k -ℚ sum_below r (λ i. g.costs.weights i *ℚ equations f i k)
 
+    -- below the artificial columns these are the reduced costs of the last tableau
     lessened_is : (k : ℕ) → k < w + r → lessened k ≡ reduced_at t k
     lessened_is k l =
         ap (λ s. cost_at f.cost k -ℚ s)
@@ -361,6 +397,7 @@ module _ (m : Model) (ls : List (Option ℚ × Option ℚ)) (h : Limited m ls)
         out : (s a : ℚ) → (s *ℚ s) *ℚ a ≡ neg_ℚ s *ℚ (0ℚ -ℚ s *ℚ a)
         out s a = simp ring
 
+    -- a column that is basic in the basis has the reduced cost 0 in the last tableau
     zero_left : (k : ℕ) → k < w + r → basis_at left k ≡ Basic → reduced_at t k ≡ 0ℚ
     zero_left k l s =
         by_kind w r k
@@ -385,6 +422,7 @@ module _ (m : Model) (ls : List (Option ℚ × Option ℚ)) (h : Limited m ls)
             zero_at_basic r n F (cost_at f.cost) b (table_of t) g (w + i) (omega (arith, q))
             (sym (ap (λ c. cond c Basic (status_at t (w + i))) c) ∙ z)
 
+    -- each basic column of the tableau of the basis is below the artificial ones, and basic in the basis
     basic_before : (i : ℕ) → i < r → (basic_at u i < w + r) × (basis_at left (basic_at u i) ≡ Basic)
     basic_before i l =
         let s : status_at u (basic_at u i) ≡ Basic = g'.marked i l in
@@ -394,6 +432,7 @@ module _ (m : Model) (ls : List (Option ℚ × Option ℚ)) (h : Limited m ls)
         (λ j q e. let k : basic_at u i < w + r = omega (arith, q, e) in (k, sym (status_is (basic_at u i) k) ∙ s))
         (λ j e. let z : AtLower ≡ Basic = sym (status_art j (omega (arith, inside, e))) ∙ ap (status_at u) (sym e) ∙ s in cc)
 
+    -- below the artificial columns both tableaus have the same reduced costs
     reduced_is : (k : ℕ) → k < w + r → reduced_at u k ≡ reduced_at t k
     reduced_is k l =
         same_reduced_costs r (equations f) (entry_at u) (basic_at u) g'.units g'.back (cost_at f.cost) (reduced_at u)
@@ -401,12 +440,14 @@ module _ (m : Model) (ls : List (Option ℚ × Option ℚ)) (h : Limited m ls)
         (λ i q. let o = basic_before i q in lessened_is (basic_at u i) o.0 ∙ zero_left (basic_at u i) o.0 o.1) k
         ∙ lessened_is k l
 
+    -- both tableaus have the same point
     point_is : cold.point u ≡ cold.point t
     point_is =
         let p : u.cols ≡ t.cols = (parts None m ls h left fits u ok).cols ∙ sym cols in
         ap (λ n. made n (value_at u)) p
         ∙ made_same t.cols (value_at u) (value_at t) (λ k q. value_is k (omega (arith, q, cols)))
 
+    -- both tableaus have the same multipliers
     multipliers_are : cold.multipliers u ≡ cold.multipliers t
     multipliers_are =
         let p = parts None m ls h left fits u ok in
@@ -414,6 +455,7 @@ module _ (m : Model) (ls : List (Option ℚ × Option ℚ)) (h : Limited m ls)
         ∙ made_same t.rows (λ i. reduced_at u (t.cols + i)) (λ i. reduced_at t (t.cols + i))
         (λ i q. reduced_is (t.cols + i) (omega (arith, q, cols, rows)))
 
+  -- where the point and multipliers of the last tableau show the optimum, the basis that it leaves keeps the model
   pub end_keeps : ChecksOptimal m (cold.point t) (cold.multipliers t) →
       Keeps m (made (form_columns t) (cold.basis_status t))
   end_keeps checks =

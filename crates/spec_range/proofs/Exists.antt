@@ -1,9 +1,10 @@
 -- That a tableau of a basis exists depends on no bound, cost or limit; that a form exists, on no clash of columns
 -- alone.
 --
--- `start_exists`: where a basis has a tableau in one form, it has one in each form of the same equations.
+-- `start_exists`: where a basis has a tableau in one form, without a limit, it has one in each form of the same
+--   equations.
 -- `start_unlimited`: a tableau that a basis has at a limit is the one that it has without a limit.
--- `form_exists`: a model none of whose columns has a lower bound above its upper bound has a form.
+-- `form_exists`: a model none of whose columns has a lower bound above its upper bound has a form without a limit.
 use Rattle.std.proofs.Common.{◌≡◌, ℕ, zero, suc, ◌+◌, ◌<◌, List, [], Option, Some, None, Result, Ok, Err}
 use Rattle.std.proofs.Common.{Bool, true, false, cond, refl, sym, ap, ◌∙◌, ⊎_elim}
 use Rattle.spec_exact.specs.Fraction.{ℚ, ◌≤ℚ◌}

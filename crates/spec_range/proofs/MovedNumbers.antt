@@ -14,7 +14,8 @@ use Rattle.spec_pivot.proofs.Pivot.{by_eq}
 use Rattle.spec_pivot.proofs.Ray.{ray_at, ray_still, form_ray}
 use Rattle.spec_pivot.proofs.Values.{by_basic}
 
--- the reduced costs when the cost of column j grows by d, where e is the row of j, if it is basic
+-- the table with the reduced costs that it has when the cost of column j grows by d, where e is the tableau's row of j
+-- if j is basic, else 0
 abbrev pub repriced : Table → ℕ → ℚ → (ℕ → ℚ) → Table
 repriced t j d e =
     record {
@@ -25,7 +26,7 @@ repriced t j d e =
       status = t.status;
     }
 
--- the values when column s, which is not basic, rises by v
+-- the table with the values that it has when column s, which is not basic, rises by v and the basic columns follow
 abbrev pub carried : ℕ → Table → ℕ → ℚ → Table
 carried m t s v =
     record {
@@ -37,6 +38,7 @@ carried m t s v =
     }
 
 module _ (m n : ℕ) (f : Matrix) (cost : ℕ → ℚ) (b : Bounds) (t : Table) (g : IsTableau m n f cost b t) where
+  -- with the cost of column j grown by d, the table with its new reduced costs is a tableau of the new costs
   pub repriced_is : (j : ℕ) (d : ℚ) (e weights : ℕ → ℚ) (cost' : ℕ → ℚ) →
       ((k : ℕ) → e k ≡ sum_below m (λ r. weights r *ℚ f r k)) →
       ((i : ℕ) → i < m → e (t.basic i) ≡ delta j (t.basic i)) →
@@ -75,7 +77,7 @@ module _ (m n : ℕ) (f : Matrix) (cost : ℕ → ℚ) (b : Bounds) (t : Table) 
       none : (d a : ℚ) → 0ℚ +ℚ d *ℚ (a -ℚ a) ≡ 0ℚ
       none d a = simp ring
 
-  -- other bounds, between which each column that is not basic stands
+  -- a tableau is one of other bounds too, where each nonbasic column stands at them as its status says
   pub rebounded_is : (c : Bounds) →
       ((k : ℕ) → k < n → ¬ (t.status k ≡ Basic) → Stands (t.status k) (c.lower k) (c.upper k) (t.value k)) →
       IsTableau m n f cost c t
@@ -93,6 +95,8 @@ module _ (m n : ℕ) (f : Matrix) (cost : ℕ → ℚ) (b : Bounds) (t : Table) 
     solves = g.solves;
   }
 
+  -- where a nonbasic column rises by v to where its moved bounds let it stand, the table with its new values is a
+  -- tableau
   pub carried_is : (s : ℕ) (v : ℚ) (c : Bounds) → s < n → ¬ (t.status s ≡ Basic) →
       Stands (t.status s) (c.lower s) (c.upper s) (t.value s +ℚ v) →
       ((k : ℕ) → k < n → k ≢ s → (c.lower k ≡ b.lower k) × (c.upper k ≡ b.upper k)) →

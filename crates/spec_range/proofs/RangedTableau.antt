@@ -26,7 +26,7 @@ use Rattle.spec_pivot.specs.Dual.{IsOrdered}
 use Rattle.spec_runs.specs.Based.{equations, BeginsFrom}
 use Rattle.spec_runs.proofs.BasisTableau.{start_begins_from}
 
--- what a tableau has of a form and a basis
+-- the tableau has the form's shape and bounds, and the basis's statuses
 pub record IsOf (f : Form) (basis : List Status) (t : Tableau) : Type 0 where
   pub rows : t.rows ≡ f.rows
   pub cols : t.cols ≡ f.cols
@@ -46,11 +46,12 @@ start_is_of limit f basis t h =
     let z : with_reduced (with_values (with_basis f basis a.0) c.0) d.0 ≡ t = cc in
     subst (IsOf f basis) z (record { rows = refl; cols = refl; status = refl; lower = refl; upper = refl })
 
--- the bounds of a form, with those of the artificial columns
+-- the bounds of columns by lists of lower and upper ones; columns from n on, the artificial ones, are barred
 abbrev pub bounds_in : List (Option ℚ) → List (Option ℚ) → ℕ → Bounds
 bounds_in lower upper n =
     record { lower = λ k. get_or lower k None; upper = λ k. get_or upper k None; barred = λ k. nat_le n k }
 
+-- the bounds of a form's columns, with those of its artificial columns, both 0
 abbrev pub form_bounds : Form → Bounds
 form_bounds f = bounds_in (basis_lower f) (basis_upper f) (f.cols + f.rows)
 
@@ -60,19 +61,22 @@ bounds_are f basis t s =
     ap₂ (λ l u. bounds_in l u (t.cols + t.rows)) s.lower s.upper
     ∙ ap₂ (λ c r. bounds_in (basis_lower f) (basis_upper f) (c + r)) s.cols s.rows
 
--- a tableau of the form's equations, costs and bounds
+-- the tableau is one of the form's equations, costs and bounds
 abbrev pub IsFor : Form → Tableau → Type 0
 IsFor f t =
     IsTableau f.rows (f.cols + f.rows + f.rows) (equations f) (cost_at f.cost) (form_bounds f) (table_of t)
 
 module _ (limit : Option ℕ) (f : Form) (proper : IsProper f) (basis : List Status) (fits : IsBasisOf f basis)
     (few : length f.cost ≤ f.cols + f.rows + f.rows) (t : Tableau) (ok : start_from limit f basis ≡ Ok t) where
+  -- the tableau of a basis begins from the form
   pub begun : BeginsFrom f t
   begun = start_begins_from limit f basis t proper fits few ok
 
+  -- the tableau of a basis has the form's shape and bounds, and the basis's statuses
   pub of : IsOf f basis t
   of = start_is_of limit f basis t ok
 
+  -- the tableau of a basis is one of the form's equations, costs and bounds
   pub is_for : IsFor f t
   is_for =
       subst (λ b. IsTableau f.rows (f.cols + f.rows + f.rows) (equations f) (cost_at f.cost) b (table_of t))
@@ -80,12 +84,15 @@ module _ (limit : Option ℕ) (f : Form) (proper : IsProper f) (basis : List Sta
 
 -- ---- the lists of a basis
 module _ (f : Form) (proper : IsProper f) where
+  -- below the artificial columns the lower bounds are those of the form
   lower_before : (k : ℕ) → k < f.cols + f.rows → get_or (basis_lower f) k None ≡ form_lower f k
   lower_before k h = get_or_append_left f.lower (replicate f.rows (Some 0ℚ)) None k (omega (arith, h, proper.all_lower))
 
+  -- below the artificial columns the upper bounds are those of the form
   upper_before : (k : ℕ) → k < f.cols + f.rows → get_or (basis_upper f) k None ≡ form_upper f k
   upper_before k h = get_or_append_left f.upper (replicate f.rows (Some 0ℚ)) None k (omega (arith, h, proper.all_upper))
 
+  -- behind the bounds of a form's columns each artificial has the bound 0
   bound_after : (bounds : List (Option ℚ)) → length bounds ≡ f.cols + f.rows → (r : ℕ) → r < f.rows →
       get_or (bounds ++ replicate f.rows (Some 0ℚ)) (f.cols + f.rows + r) None ≡ Some 0ℚ
   bound_after bounds all r h =
@@ -93,21 +100,24 @@ module _ (f : Form) (proper : IsProper f) where
       ∙ get_or-append-add bounds (replicate f.rows (Some 0ℚ)) r None
       ∙ get_or-replicate f.rows r (Some 0ℚ) None h
 
+  -- the bounds of a form are those of its columns, with both bounds 0 for each artificial
   pub bounded : HasBounds f (form_bounds f)
   bounded =
       record { lower = lower_before; upper = upper_before; entering = λ k l. lt-leb (f.cols + f.rows) k l }
 
+  -- each artificial column of a form has 0 as its lower and its upper bound
   pub fixed_after : (i : ℕ) → i < f.rows →
       ((form_bounds f).lower (f.cols + f.rows + i) ≡ Some 0ℚ) × ((form_bounds f).upper (f.cols + f.rows + i) ≡ Some 0ℚ)
   fixed_after i h = (bound_after f.lower proper.all_lower i h, bound_after f.upper proper.all_upper i h)
 
-  -- an artificial by the number of its row
+  -- what holds of the artificial of each row holds of each column behind the logical ones
   pub by_artificial : (P : ℕ → Type 0) (k : ℕ) → f.cols + f.rows ≤ k → k < f.cols + f.rows + f.rows →
       ((r : ℕ) → r < f.rows → P (f.cols + f.rows + r)) → P k
   by_artificial P k h l g =
       let z : f.cols + f.rows + (k - (f.cols + f.rows)) ≡ k = omega (arith, h) in
       subst P z (g (k - (f.cols + f.rows)) (omega (arith, h, l)))
 
+  -- no lower bound of a form is above the upper bound of its column
   pub ordered : IsOrdered (f.cols + f.rows + f.rows) (form_bounds f)
   ordered k l u k_in p q =
       by_lt k (f.cols + f.rows)

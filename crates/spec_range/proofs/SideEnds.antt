@@ -28,9 +28,11 @@ use Rattle.spec_range.proofs.SignsAlong.{up_from, down_from, meets_above, meets_
 use Rattle.spec_range.proofs.Sides.{shifted}
 
 -- ---- a bound that moves along
+-- the right sides up to `high` are those with which the bound, moved along with the right side from b, is at most v
 abbrev Highest : ℚ → ℚ → Option ℚ → Option ℚ → Type 0
 Highest b v bound high = (x : ℚ) → IfSome high (λ k. x ≤ℚ k) ↔ IfSome (shifted (x -ℚ b) bound) (λ l. l ≤ℚ v)
 
+-- the right sides from `low` on are those with which the bound, moved along with the right side from b, is at least v
 abbrev Lowest : ℚ → ℚ → Option ℚ → Option ℚ → Type 0
 Lowest b v bound low = (x : ℚ) → IfSome low (λ k. k ≤ℚ x) ↔ IfSome (shifted (x -ℚ b) bound) (λ u. v ≤ℚ u)
 
@@ -160,14 +162,16 @@ carried_ok limit b v a lower upper e y n h =
 module _ (limit : Option ℕ) (b : ℚ) (t : Tableau) (s n : ℕ) (n_is : all_columns t ≡ n) (move : ℕ → ℚ)
     (moves : (k : ℕ) → k < n → status_at t k ≡ Basic → move k ≡ neg_ℚ (entry_at t (place_of t k) s))
     (inside : (k : ℕ) → k < n → status_at t k ≡ Basic → IsInside (lower_at t k) (upper_at t k) (value_at t k)) where
-  -- what column k asks of the right side x
+  -- where column k is basic, its value with the right side x is within its bounds
   abbrev Wants : ℚ → ℕ → Type 0
   Wants x k =
       status_at t k ≡ Basic → IsInside (lower_at t k) (upper_at t k) (value_at t k +ℚ (x -ℚ b) *ℚ move k)
 
+  -- the ends e have exactly the right sides with which the basic columns before column i are within their bounds
   abbrev Meant : ℕ → Ends ℚ → Type 0
   Meant i e = (x : ℚ) → IsIn e x ↔ ((k : ℕ) → k < i → Wants x k)
 
+  -- each right side suits a column that is nonbasic or does not move with the logical
   unmoved : (k : ℕ) → k < n → is_carried t s k ≡ false → (x : ℚ) → Wants x k
   unmoved k k_in q x basic =
       let e : entry_at t (place_of t k) s ≡ 0ℚ =
@@ -180,6 +184,8 @@ module _ (limit : Option ℕ) (b : ℚ) (t : Tableau) (s n : ℕ) (n_is : all_co
       still : (v d : ℚ) → v ≡ v +ℚ d *ℚ neg_ℚ 0ℚ
       still v d = simp ring
 
+  -- the ends with those of a basic column that moves have the right sides from before with which it is within its
+  -- bounds
   moved_ok : (k : ℕ) (e y : Ends ℚ) → k < n → is_carried t s k ≡ true →
       carried_ends limit b (value_at t k) (entry_at t (place_of t k) s) (lower_at t k) (upper_at t k) e ≡ Ok y →
       (x : ℚ) → IsIn y x ↔ (IsIn e x × Wants x k)
@@ -198,6 +204,7 @@ module _ (limit : Option ℕ) (b : ℚ) (t : Tableau) (s n : ℕ) (n_is : all_co
         λ i. (cuts x).1 (i.0, subst (IsInside (lower_at t k) (upper_at t k)) (sym same) (i.1 basic)),
       )
 
+  -- ends that suit the columns before k suit, with those of column k, this column too
   step : (k : ℕ) (e y : Ends ℚ) → k < n → Meant k e →
       cond (is_carried t s k)
       (carried_ends limit b (value_at t k) (entry_at t (place_of t k) s) (lower_at t k) (upper_at t k) e) (Ok e) ≡ Ok y →
@@ -221,6 +228,8 @@ module _ (limit : Option ℕ) (b : ℚ) (t : Tableau) (s n : ℕ) (n_is : all_co
           join (Unit {0}) (subst (λ y. IsIn y x ↔ (IsIn e x × Unit {0})) z (λ i. (i, tt), λ i. i.0))
           (λ _. unmoved k k_in q x, λ _. tt)
 
+  -- the ends for a right side whose logical is nonbasic have exactly those with which each basic value is within its
+  -- bounds
   pub nonbasic_ok : (y : Ends ℚ) → nonbasic_ends limit b t s ≡ Ok y → (x : ℚ) →
       IsIn y x ↔ ((k : ℕ) → k < n → status_at t k ≡ Basic →
       IsInside (lower_at t k) (upper_at t k) (value_at t k +ℚ (x -ℚ b) *ℚ move k))

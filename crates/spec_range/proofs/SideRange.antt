@@ -101,42 +101,54 @@ module _ (m : Model) (ls : List (Option ℚ × Option ℚ)) (h : Limited m ls) (
     (fits : IsBasisOf (formed m ls) basis) (t : Tableau) (ok : start_from None (formed m ls) basis ≡ Ok t)
     (checks : ChecksOptimal m (point t) (multipliers t)) (i : ℕ) (i_in : i < height m) (v : ℚ)
     (optimal : IsOptimal m v) where
+  -- the count of the model's columns
   abbrev w : ℕ
   w = width m
 
+  -- the count of the model's rows
   abbrev r : ℕ
   r = height m
 
+  -- the count of the form's columns, with the logical and artificial ones
   abbrev n : ℕ
   n = w + r + r
 
+  -- the number of row i's logical column
   abbrev s : ℕ
   s = w + i
 
+  -- the right side of row i as it is
   abbrev c : ℚ
   c = (row m i).rhs
 
+  -- row i's logical is a column of the form
   s_in : s < n
   s_in = omega (arith, i_in)
 
+  -- the reduced cost of row i's logical, with the sign of the sense
   abbrev slope : ℚ
   slope = least_cost m.sense (reduced_at t s)
 
+  -- the tableau of the basis is good for the bounds of the form
   kept_good : IsGood (width m + height m + height m) (form_bounds (formed m ls)) (table_of t)
   kept_good = good None m ls h basis fits t ok checks
 
+  -- with each right side of row i each reduced cost of the tableau suits its column's status, unless the column is
+  -- fixed
   suits_still : (x : ℚ) (k : ℕ) → k < n → ¬ (IsFixed (bounds_with m ls h basis fits t ok i i_in x) k) →
       Suits (status_at t k) (reduced_at t k)
   suits_still x k k_in f = kept_good.suits k k_in (λ z. f (fixed_still m ls h basis fits t ok i i_in x k z))
 
   -- ---- the logical is basic
   module _ (basic : status_at t s ≡ Basic) where
+    -- where the logical is basic, the slope is 0
     zero_slope : slope ≡ 0ℚ
     zero_slope =
         ap (least_cost m.sense)
         (zero_at_basic r n _ _ _ (table_of t) (g m ls h basis fits t ok i i_in) s s_in basic)
         ∙ sense_zero m.sense
 
+    -- where the logical is basic, the ends for it with the slope are the range of the right side
     still_range : (limit : Option ℕ) (e : Ends ℚ) →
         still_ends limit c (value_at t s) (lower_at t s) (upper_at t s) ≡ Ok e →
         IsRange (with_rhs m i) basis (row m i).rhs v (record { ends = e; slope = slope })
@@ -189,12 +201,15 @@ module _ (m : Model) (ls : List (Option ℚ × Option ℚ)) (h : Limited m ls) (
 
   -- ---- the logical is not basic
   module _ (free : ¬ (status_at t s ≡ Basic)) where
+    -- by how much column k moves as the logical rises by 1
     abbrev move : ℕ → ℚ
     move k = ray r (table_of t) Up s k
 
+    -- a nonbasic logical is basic at no position
     off : (k : ℕ) → k < r → ¬ (basic_at t k ≡ s)
     off = outside r n _ _ _ (table_of t) (g m ls h basis fits t ok i i_in) s free
 
+    -- a basic column moves by the negative of its entry in the logical's column
     moves : (k : ℕ) → k < n → status_at t k ≡ Basic → move k ≡ neg_ℚ (entry_at t (place_of t k) s)
     moves k k_in b =
         let p = parts None m ls h basis fits t ok in
@@ -206,7 +221,7 @@ module _ (m : Model) (ls : List (Option ℚ × Option ℚ)) (h : Limited m ls) (
         (omega (arith, q.0, rows))
         ∙ ap neg_ℚ (one-*ℚ (entry_at t (place_of t k) s))
 
-    -- the cost along the move
+    -- the reduced costs times the moves sum to the logical's reduced cost
     reduced_sum : sum_below n (λ k. reduced_at t k *ℚ move k) ≡ reduced_at t s
     reduced_sum =
         sum_below_same n _ (λ k. delta s k *ℚ (reduced_at t k *ℚ move k)) term
@@ -231,6 +246,7 @@ module _ (m : Model) (ls : List (Option ℚ × Option ℚ)) (h : Limited m ls) (
             (sym (ap (λ a. a *ℚ (reduced_at t s *ℚ move s)) (delta_same s) ∙ one-*ℚ _)))
             (λ z. none k k_in z ∙ sym (ap (λ a. a *ℚ (reduced_at t k *ℚ move k)) (delta_other s k z) ∙ zero-*ℚ _))
 
+    -- the form's costs times the moves sum to the model's costs times the moves, with the sign of the sense
     cost_sum : sum_below n (λ k. cost_at (formed m ls).cost k *ℚ move k)
         ≡ least_cost m.sense (sum_below w (λ k. cost m k *ℚ move k))
     cost_sum =
@@ -249,6 +265,7 @@ module _ (m : Model) (ls : List (Option ℚ × Option ℚ)) (h : Limited m ls) (
         close : (a : ℚ) → (a +ℚ 0ℚ) +ℚ 0ℚ ≡ a
         close a = simp ring
 
+    -- the model's costs times the moves sum to the slope
     slope_is : sum_below w (λ k. cost m k *ℚ move k) ≡ slope
     slope_is =
         sym (sense_twice m.sense (sum_below w (λ k. cost m k *ℚ move k)))
@@ -259,6 +276,7 @@ module _ (m : Model) (ls : List (Option ℚ × Option ℚ)) (h : Limited m ls) (
         (g m ls h basis fits t ok i i_in).costs.less)
         ∙ reduced_sum)
 
+    -- with the values moved by d times the moves, the objective is the optimal value plus d times the slope
     carried_value : (d : ℚ) → sum_below w (λ k. cost m k *ℚ (value_at t k +ℚ d *ℚ move k)) +ℚ m.offset
         ≡ v +ℚ d *ℚ slope
     carried_value d =
@@ -318,6 +336,7 @@ module _ (m : Model) (ls : List (Option ℚ × Option ℚ)) (h : Limited m ls) (
             (good_optimal m (with_rhs m i x) ls basis fits h t ok _ _ _ (moved x) (good_in x q));
       }
 
+    -- where the logical is nonbasic and has a bound, the ends for it with the slope are the range of the right side
     along : is_some (lower_at t s) || is_some (upper_at t s) ≡ true → (limit : Option ℕ) (e : Ends ℚ) →
         nonbasic_ends limit c t s ≡ Ok e →
         IsRange (with_rhs m i) basis (row m i).rhs v (record { ends = e; slope = slope })
@@ -333,6 +352,7 @@ module _ (m : Model) (ls : List (Option ℚ × Option ℚ)) (h : Limited m ls) (
         (λ k k_in b. subst₂ (λ l u. IsInside l u (value_at t k)) (sym (low None m ls h basis fits t ok k))
         (sym (high None m ls h basis fits t ok k)) (kept_good.inside k k_in b)) e q)
 
+    -- where the logical is nonbasic and has no bound, all numbers with the slope are the range of the right side
     alone : is_some (lower_at t s) || is_some (upper_at t s) ≡ false →
         IsRange (with_rhs m i) basis (row m i).rhs v (record { ends = no_ends; slope = slope })
     alone none =
@@ -359,6 +379,7 @@ module _ (m : Model) (ls : List (Option ℚ × Option ℚ)) (h : Limited m ls) (
         still : (x r : ℚ) → x ≡ x +ℚ 0ℚ *ℚ r
         still x r = simp ring
 
+  -- what the run over the tableau finds is the range of the right side of row i
   run_ok : (limit : Option ℕ) (rg : Range ℚ) → side_run limit m t i ≡ Ok rg →
       IsRange (with_rhs m i) basis (row m i).rhs v rg
   unfolding side_run

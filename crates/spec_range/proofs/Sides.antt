@@ -31,11 +31,12 @@ use Rattle.spec_range.proofs.RangedTableau.{form_bounds, bounded}
 
 -- ---- limits
 
--- a bound that goes along by v
+-- a bound, if it is there, with v added
 abbrev pub shifted : ℚ → Option ℚ → Option ℚ
 shifted v None = None
 shifted v (Some l) = Some (l +ℚ v)
 
+-- the limits k are the limits l, each with v added if it is there
 record IsShifted (v : ℚ) (l k : Limits) : Type 0 where
   lower : k.lower ≡ shifted v l.lower
   upper : k.upper ≡ shifted v l.upper
@@ -70,22 +71,27 @@ limits_along E (Some r) b x = by (lt_ℚ r 0ℚ)
 
 -- ---- the other model
 module _ (m : Model) (i : ℕ) (i_in : i < height m) (x : ℚ) where
+  -- row i with the right side x
   abbrev changed : ExactRow
   changed = record (row m i) { rhs = x }
 
+  -- the model with another right side of row i has as many rows as the model
   other_height : height (with_rhs m i x) ≡ height m
   other_height = length-set m.rows i (record (row m i) { rhs = x })
 
+  -- with the right side x row i has its limits moved by what x is above the old right side
   limits_there : IsShifted (x -ℚ (row m i).rhs) (limits m i) (limits (with_rhs m i x) i)
   limits_there =
       subst (λ (r : ExactRow). IsShifted (x -ℚ (row m i).rhs) (limits m i) (limits_by r.kind r.rhs r.range))
       (sym (get_or-set_same m.rows i changed no_row i_in))
       (limits_along (row m i).kind (row m i).range (row m i).rhs x)
 
+  -- each other row than i has its old limits in the model with another right side of row i
   limits_elsewhere : (k : ℕ) → k ≢ i → limits (with_rhs m i x) k ≡ limits m k
   limits_elsewhere k z =
       ap (λ (r : ExactRow). limits_by r.kind r.rhs r.range) (get_or-set_other m.rows i k changed no_row z)
 
+  -- the forms of the model and of that with another right side differ in bounds and costs alone
   pub skeleton_same : (ls l : List (Option ℚ × Option ℚ)) →
       skeleton (formed m ls) ≡ skeleton (formed (with_rhs m i x) l)
   skeleton_same ls l =
@@ -99,6 +105,7 @@ module _ (m : Model) (i : ℕ) (i_in : i < height m) (x : ℚ) where
       })
       (sym other_height)
 
+  -- the forms of the model and of that with another right side have the same costs
   costs_same : (ls l : List (Option ℚ × Option ℚ)) (k : ℕ) →
       cost_at (formed (with_rhs m i x) l).cost k ≡ cost_at (formed m ls).cost k
   costs_same ls l k =
@@ -108,30 +115,36 @@ module _ (m : Model) (i : ℕ) (i_in : i < height m) (x : ℚ) where
 module _ (m : Model) (ls : List (Option ℚ × Option ℚ)) (h : Limited m ls) (basis : List Status)
     (fits : IsBasisOf (formed m ls) basis) (t : Tableau) (ok : start_from None (formed m ls) basis ≡ Ok t)
     (i : ℕ) (i_in : i < height m) where
+  -- the count of the model's columns
   abbrev w : ℕ
   w = width m
 
+  -- the count of the model's rows
   abbrev r : ℕ
   r = height m
 
+  -- the count of the form's columns, with the logical and artificial ones
   abbrev n : ℕ
   n = w + r + r
 
-  -- the logical of the row
+  -- the number of row i's logical column
   abbrev s : ℕ
   s = w + i
 
+  -- the bounds of the model's form
   abbrev b : Bounds
   b = form_bounds (formed m ls)
 
+  -- what x is above the right side of row i
   abbrev by : ℚ → ℚ
   by x = x -ℚ (row m i).rhs
 
+  -- the basis's tableau is one of the form's equations, costs and bounds
   pub g : IsTableau (height m) (width m + height m + height m) (equations (formed m ls))
       (cost_at (formed m ls).cost) (form_bounds (formed m ls)) (table_of t)
   g = tableau None m ls h basis fits t ok
 
-  -- the bounds, with those of the logical moved along
+  -- the form's bounds with those of row i's logical moved by what x is above the old right side
   abbrev pub bounds_with : ℚ → Bounds
   bounds_with x =
       record {
@@ -140,22 +153,27 @@ module _ (m : Model) (ls : List (Option ℚ × Option ℚ)) (h : Limited m ls) (
         barred = b.barred;
       }
 
+  -- with the right side x the lower bound of row i's logical is moved by what x is above the old right side
   pub low_there : (x : ℚ) → (bounds_with x).lower (width m + i)
       ≡ shifted (x -ℚ (row m i).rhs) ((form_bounds (formed m ls)).lower (width m + i))
   low_there x = rw (eq-eqb s s refl) refl
 
+  -- with the right side x the upper bound of row i's logical is moved by what x is above the old right side
   pub high_there : (x : ℚ) → (bounds_with x).upper (width m + i)
       ≡ shifted (x -ℚ (row m i).rhs) ((form_bounds (formed m ls)).upper (width m + i))
   high_there x = rw (eq-eqb s s refl) refl
 
+  -- each other column than row i's logical keeps its lower bound
   pub low_elsewhere : (x : ℚ) (k : ℕ) → k ≢ width m + i →
       (bounds_with x).lower k ≡ (form_bounds (formed m ls)).lower k
   low_elsewhere x k z = rw (ne_eqb k s z) refl
 
+  -- each other column than row i's logical keeps its upper bound
   pub high_elsewhere : (x : ℚ) (k : ℕ) → k ≢ width m + i →
       (bounds_with x).upper k ≡ (form_bounds (formed m ls)).upper k
   high_elsewhere x k z = rw (ne_eqb k s z) refl
 
+  -- the form of the model with the right side x has the form's bounds with those of the logical moved
   bounds_are : (x : ℚ) (l : List (Option ℚ × Option ℚ)) → Limited (with_rhs m i x) l →
       SameBounds n (form_bounds (formed (with_rhs m i x) l)) (bounds_with x)
   bounds_are x l hl =
@@ -181,12 +199,14 @@ module _ (m : Model) (ls : List (Option ℚ × Option ℚ)) (h : Limited m ls) (
         high_elsewhere x (w + r + k) z ∙ artificial_high m ls h k q,
       ))
 
+  -- where a status can stand at bounds, it can stand at them with v added
   can_shift : (st : Status) (v : ℚ) (l u : Option ℚ) → CanStand st l u → CanStand st (shifted v l) (shifted v u)
   can_shift Basic v l u c = tt
   can_shift AtLower v l u c = (c.0 +ℚ v, ap (shifted v) c.1)
   can_shift AtUpper v l u c = (c.0 +ℚ v, ap (shifted v) c.1)
   can_shift AtZero v l u c = (ap (shifted v) c.0, ap (shifted v) c.1)
 
+  -- the basis fits the form of the model with another right side
   fits_still : (x : ℚ) (l : List (Option ℚ × Option ℚ)) → Limited (with_rhs m i x) l →
       IsBasisOf (formed (with_rhs m i x) l) basis
   fits_still x l hl =
@@ -207,6 +227,7 @@ module _ (m : Model) (ls : List (Option ℚ × Option ℚ)) (h : Limited m ls) (
       (sym (y.upper k q) ∙ sym (high_elsewhere x k e)) c)))
       fits
 
+  -- a tableau with the same statuses, for the moved bounds, is one of the model with the right side x
   moved_by : (x : ℚ) (u : Table) → ((k : ℕ) → u.status k ≡ status_at t k) →
       IsTableau r n (equations (formed m ls)) (cost_at (formed m ls).cost) (bounds_with x) u →
       IsMoved m (with_rhs m i x) ls basis fits h t ok (cost_at (formed m ls).cost) (bounds_with x) u
@@ -220,7 +241,7 @@ module _ (m : Model) (ls : List (Option ℚ × Option ℚ)) (h : Limited m ls) (
     tableau = is;
   }
 
-  -- the logical is basic: no value moves
+  -- where row i's logical is basic, the tableau itself is one of the model with the right side x: no value moves
   pub still_moved : status_at t (width m + i) ≡ Basic → (x : ℚ) →
       IsMoved m (with_rhs m i x) ls basis fits h t ok (cost_at (formed m ls).cost) (bounds_with x) (table_of t)
   still_moved basic x =
@@ -230,7 +251,8 @@ module _ (m : Model) (ls : List (Option ℚ × Option ℚ)) (h : Limited m ls) (
       subst₂ (λ l u. Stands (status_at t k) l u (value_at t k)) (sym (low_elsewhere x k z)) (sym (high_elsewhere x k z))
       (g.stands k q)))
 
-  -- the logical is not basic, and rises by v
+  -- where row i's logical is nonbasic and stands at its moved bounds once it rises by v, the table with the values that
+  -- follow is one of the model with the right side x
   pub carried_moved : ¬ (status_at t (width m + i) ≡ Basic) → (x v : ℚ) →
       Stands (status_at t (width m + i)) (shifted (x -ℚ (row m i).rhs) ((form_bounds (formed m ls)).lower (width m + i)))
       (shifted (x -ℚ (row m i).rhs) ((form_bounds (formed m ls)).upper (width m + i)))
@@ -244,7 +266,7 @@ module _ (m : Model) (ls : List (Option ℚ × Option ℚ)) (h : Limited m ls) (
       (subst₂ (λ l u. Stands (status_at t s) l u (value_at t s +ℚ v)) (sym (low_there x)) (sym (high_there x)) stands)
       (λ k q z. (low_elsewhere x k z, high_elsewhere x k z)))
 
-  -- what is fixed stays fixed
+  -- a column that is fixed stays so with each right side of row i
   pub fixed_still : (x : ℚ) (k : ℕ) → IsFixed (form_bounds (formed m ls)) k → IsFixed (bounds_with x) k
   fixed_still x k f =
       by_eq k s

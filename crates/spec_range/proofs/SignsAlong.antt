@@ -2,9 +2,12 @@
 --
 -- `up_from`: t is at most v exactly where v - t is at least 0.
 -- `down_from`: v is at most t exactly where v - t is at most 0.
--- `meets_above`: t is on the side of v that the sign of a gives exactly where a times (v - t) is at least 0.
--- `meets_below`: t is on the other side of v exactly where a times (v - t) is at most 0.
--- `ends_ok`: the ends after a status's step have the numbers from before for which a times (v - t) suits the status.
+-- `meets_above`: for a that is not 0, t is at most v if a is above 0, else at least v, exactly where a times (v - t) is
+--   at least 0.
+-- `meets_below`: for a that is not 0, t is at least v if a is above 0, else at most v, exactly where a times (v - t) is
+--   at most 0.
+-- `ends_ok`: for a that is not 0, the ends that a status makes of e with v have the numbers t of e for which a times
+--   (v - t) suits the status.
 use Rattle.std.proofs.Common.{◌≡◌, ◌↔◌, ℕ, Option, Ok, Bool, true, false, not, refl, sym, subst, subst₂}
 use Rattle.spec_exact.specs.Fraction.{ℚ, ◌-ℚ◌, ◌*ℚ◌, neg_ℚ, 0ℚ, ◌≤ℚ◌, ◌<ℚ◌, lt_ℚ}
 use Rattle.spec_exact.proofs.Field.{*ℚ_zero}
@@ -34,24 +37,28 @@ down_from v t = (
 
 -- ---- a factor above 0, and one below
 module _ (a : ℚ) (above : 0ℚ <ℚ a) where
+  -- where a is above 0, w is at least 0 exactly where a times w is
   grows : (w : ℚ) → 0ℚ ≤ℚ w ↔ 0ℚ ≤ℚ (a *ℚ w)
   grows w = (
     λ h. subst (λ z. z ≤ℚ (a *ℚ w)) (*ℚ_zero a) (*ℚ_mono 0ℚ w a (<ℚ-le 0ℚ a above) h),
     λ h. *ℚ_mono_back 0ℚ w a above (subst (λ z. z ≤ℚ (a *ℚ w)) (sym (*ℚ_zero a)) h),
   )
 
+  -- where a is above 0, w is at most 0 exactly where a times w is
   shrinks : (w : ℚ) → w ≤ℚ 0ℚ ↔ (a *ℚ w) ≤ℚ 0ℚ
   shrinks w = (
     λ h. subst (λ z. (a *ℚ w) ≤ℚ z) (*ℚ_zero a) (*ℚ_mono w 0ℚ a (<ℚ-le 0ℚ a above) h),
     λ h. *ℚ_mono_back w 0ℚ a above (subst (λ z. (a *ℚ w) ≤ℚ z) (sym (*ℚ_zero a)) h),
   )
 
+  -- where a is above 0, t is at most v exactly where a times (v - t) is at least 0
   falls_above : (v t : ℚ) → t ≤ℚ v ↔ 0ℚ ≤ℚ (a *ℚ (v -ℚ t))
   falls_above v t = (
     λ h. (grows (v -ℚ t)).0 ((up_from v t).0 h),
     λ h. (up_from v t).1 ((grows (v -ℚ t)).1 h),
   )
 
+  -- where a is above 0, v is at most t exactly where a times (v - t) is at most 0
   falls_below : (v t : ℚ) → v ≤ℚ t ↔ (a *ℚ (v -ℚ t)) ≤ℚ 0ℚ
   falls_below v t = (
     λ h. (shrinks (v -ℚ t)).0 ((down_from v t).0 h),
@@ -59,12 +66,15 @@ module _ (a : ℚ) (above : 0ℚ <ℚ a) where
   )
 
 module _ (a : ℚ) (below : a <ℚ 0ℚ) where
+  -- where a is below 0, its negative is above 0
   turned : 0ℚ <ℚ neg_ℚ a
   turned = subst (λ z. z <ℚ neg_ℚ a) (simp ring) (neg_strict a 0ℚ below)
 
+  -- the negative of a times w is the negative of a, times w
   turn : (w : ℚ) → neg_ℚ a *ℚ w ≡ neg_ℚ (a *ℚ w)
   turn w = simp ring
 
+  -- where a is below 0, v is at most t exactly where a times (v - t) is at least 0
   rises_above : (v t : ℚ) → v ≤ℚ t ↔ 0ℚ ≤ℚ (a *ℚ (v -ℚ t))
   rises_above v t = (
     λ h. neg_mono_back 0ℚ (a *ℚ (v -ℚ t)) (subst₂ ◌≤ℚ◌ (turn (v -ℚ t)) (simp ring)
@@ -73,6 +83,7 @@ module _ (a : ℚ) (below : a <ℚ 0ℚ) where
         (subst₂ ◌≤ℚ◌ (sym (turn (v -ℚ t))) (simp ring) (neg_mono 0ℚ (a *ℚ (v -ℚ t)) h)),
   )
 
+  -- where a is below 0, t is at most v exactly where a times (v - t) is at most 0
   rises_below : (v t : ℚ) → t ≤ℚ v ↔ (a *ℚ (v -ℚ t)) ≤ℚ 0ℚ
   rises_below v t = (
     λ h. neg_mono_back (a *ℚ (v -ℚ t)) 0ℚ (subst₂ ◌≤ℚ◌ (simp ring) (turn (v -ℚ t))

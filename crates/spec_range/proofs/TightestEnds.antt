@@ -16,7 +16,7 @@ use Rattle.spec_range.specs.declared.range.Ends.{Ends}
 use Rattle.spec_range.specs.Span.{IsIn}
 use Rattle.spec_range.specs.Rule.{greater_by, lesser_by, greater_run, lesser_run, at_least, at_most, at_side}
 
--- x is the greater of the two, as far as the second is there
+-- x is the greater of the new end and the kept one, if that is there: the least number that neither exceeds
 record IsGreater (new : ℚ) (kept : Option ℚ) (x : ℚ) : Type 0 where
   own : new ≤ℚ x
   other : IfSome kept (λ k. k ≤ℚ x)
@@ -36,6 +36,7 @@ greater_ok limit new (Some k) x h =
     (λ p e. given (IsGreater new (Some k)) new x e
     (record { own = ≤ℚ_refl new; other = <ℚ-le k new p; least = λ t a b. a }))
 
+-- x is the lesser of the new end and the kept one, if that is there: the greatest number that exceeds neither
 record IsLesser (new : ℚ) (kept : Option ℚ) (x : ℚ) : Type 0 where
   own : x ≤ℚ new
   other : IfSome kept (λ k. x ≤ℚ k)
@@ -65,7 +66,7 @@ from_above : (kept : Option ℚ) (x t : ℚ) → IfSome kept (λ k. x ≤ℚ k) 
 from_above None x t h p = tt
 from_above (Some k) x t h p = ≤ℚ_trans t x k p h
 
--- the numbers of x are those of e that meet the condition
+-- the numbers within the ends x are those within the ends e that meet the condition
 abbrev pub Cuts : Ends ℚ → (ℚ → Type 0) → Ends ℚ → Type 0
 Cuts e P x = (t : ℚ) → IsIn x t ↔ (IsIn e t × P t)
 
@@ -95,7 +96,7 @@ at_most_ok limit v e x h =
       λ i. record { lower = i.0.lower; upper = g.most t i.1 i.0.upper },
     ))
 
--- at the upper side, or at the lower one
+-- t is at most v if the flag says the upper side, else at least v
 abbrev pub Meets : Bool → ℚ → ℚ → Type 0
 Meets true v t = t ≤ℚ v
 Meets false v t = v ≤ℚ t
@@ -115,7 +116,7 @@ cuts_as e x P Q h c t = (
 pub cuts_none : (e x : Ends ℚ) (P : ℚ → Type 0) → ((t : ℚ) → P t) → ◌≡◌ {A = Run (Ends ℚ)} (Ok e) (Ok x) → Cuts e P x
 cuts_none e x P h q = given (Cuts e P) e x q (λ t. (λ i. (i, h t), λ i. i.0))
 
--- one after the other
+-- ends that are cut by one condition and then by another are cut by both together
 pub cuts_both : (e x y : Ends ℚ) (P Q : ℚ → Type 0) → Cuts e P x → Cuts x Q y → Cuts e (λ t. P t × Q t) y
 cuts_both e x y P Q c d t = (
   λ i. let o = (d t).0 i in let p = (c t).0 o.0 in (p.0, (p.1, o.1)),

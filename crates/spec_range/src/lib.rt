@@ -35,8 +35,8 @@ ghost use Rattle.spec_range.specs.Rule.{cost_range, side_range};
 
 pub use range::{Ends, Range};
 
-/// Where a basis shows the optimum of a model, the range of a cost or right side has exactly the numbers with which it
-/// still does. The slope of the range says the optimal value with each of them.
+/// Where a basis shows the optimum of a model, the range of a cost or right side, if no operation is refused, has
+/// exactly the numbers with which it still does. The slope of the range says the optimal value with each of them.
 pub fn ranges_are_spans()
     ensures cost { (limit : Option ℕ) (m : Model) (f : Form) (basis : List Status) (j : ℕ) (r : Range ℚ) (v : ℚ) →
         form_of limit m ≡ Ok f → j < width m → Keeps m basis → IsOptimal m v → cost_range limit m f basis j ≡ Ok r →
@@ -46,8 +46,8 @@ pub fn ranges_are_spans()
         IsRange (with_rhs m i) basis (row m i).rhs v r }
 {}
 
-/// Where a basis shows the optimum of a model, numbers of any width have a range. At a limit the range is the same, or
-/// an operation is refused.
+/// Where a basis shows the optimum of a model, each cost and right side has a range without a limit on numbers. At a
+/// limit at which the model has a form, the range from that form is the same, or an operation is refused.
 pub fn ranges_stop_only_by_refusals()
     ensures cost { (limit : Option ℕ) (m : Model) (f : Form) (basis : List Status) (j : ℕ) →
         form_of limit m ≡ Ok f → Keeps m basis →
