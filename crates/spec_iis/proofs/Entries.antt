@@ -14,9 +14,11 @@ use Rattle.spec_iis.specs.Only.{rank, only_entries}
 use Rattle.spec_iis.proofs.Picked.{rank_mono, rank_injective}
 
 module _ (p : ℕ → Bool) where
+  -- an entry with the new number of its row among those that pass the test
   abbrev moved : ℕ × ℚ → ℕ × ℚ
   moved e = (rank p e.0, e.1)
 
+  -- where row i passes the test, the entries in rows that pass give it the same coefficient under its new number
   pub entry_of-only : (es : List (ℕ × ℚ)) (i : ℕ) → p i ≡ true → entry_of (only_entries p es) (rank p i) ≡ entry_of es i
   unfolding only_entries
   entry_of-only [] i h = refl
@@ -42,6 +44,8 @@ module _ (p : ℕ → Bool) where
       by true g rest = rw (here g) (ap (cond (eqb e.0 i) e.1) rest)
       by false g rest = rw (ne_eqb e.0 i (other g)) rest
 
+  -- where entries are in order, of the first n rows and not 0, those in rows that pass a test are so for the rows that
+  -- pass
   pub only_entries-kept : (n : ℕ) (es : List (ℕ × ℚ)) → AreEntries n es → AreEntries (rank p n) (only_entries p es)
   unfolding only_entries
   only_entries-kept n es h = record {
@@ -63,6 +67,7 @@ module _ (p : ℕ → Bool) where
       kept_inside : All (λ e. e.0 < n) others
       kept_inside = All-filter (λ e. p e.0) (λ e. e.0 < n) es h.inside
 
+  -- where all coefficients have at most 127 bits, so have those of the entries in rows that pass a test
   pub only_entries-narrow : (es : List (ℕ × ℚ)) → All (λ e. IsNarrow e.1) es → All (λ e. IsNarrow e.1) (only_entries p es)
   unfolding only_entries
   only_entries-narrow es h =

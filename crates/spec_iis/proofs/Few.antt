@@ -33,32 +33,40 @@ chosen_within false true b l v h = h
 chosen_within false false b l v h = tt
 
 module _ (m : Model) (sides : List Side) (present : All (IsSide m) sides) (cert : Certificate (List ℚ)) where
+  -- the model with these sides alone
   abbrev alone : Model
   alone = only m sides
 
+  -- the sides of the model with these sides alone that the certificate uses
   abbrev uses : List Side
   uses = used alone cert
 
+  -- those of the listed sides that the certificate uses
   abbrev few : List Side
   few = used_among m sides cert
 
+  -- where the flag for the lower or upper side of a row or column is set, this side is listed
   flag_listed : (r : Bool) (i : ℕ) (u : Bool) → if_listed_of u (has_lower sides r i) (has_upper sides r i) ≡ true →
       is_listed sides (side r i u) ≡ true
   flag_listed r i true h = h
   flag_listed r i false h = h
 
+  -- a listed side, which the certificate uses by its new number, is among the few
   few_listed : (s : Side) → is_listed sides s ≡ true → is_listed uses (renumbered sides s) ≡ true → is_listed few s ≡ true
   unfolding used_among
   few_listed s h g = listed_filter (λ s. is_listed uses (renumbered sides s)) sides s h g
 
+  -- each of the few sides is listed
   few_among : All (λ s. is_listed sides s ≡ true) few
   unfolding used_among
   few_among = among_filter (λ s. is_listed uses (renumbered sides s)) sides
 
+  -- each of the few sides is a side of the model
   few_present : All (IsSide m) few
   few_present = λ k d l. listed_holds (IsSide m) sides _ present (few_among k d l)
 
   module _ (z : List ℚ) (meets : (s : Side) → is_listed few s ≡ true → Meets m z s) where
+    -- a point that meets the few sides meets each bound that the certificate uses in the model with the sides alone
     column_met : (j : ℕ) (u : Bool) → IsSide alone (side false j u) → is_listed uses (side false j u) ≡ true →
         Meets alone z (side false j u)
     column_met j u s h =
@@ -70,6 +78,7 @@ module _ (m : Model) (sides : List Side) (present : All (IsSide m) sides) (cert 
         (chosen_within u (has_lower sides false j) (has_upper sides false j) (bounds m j) (part z j)
         (meets (side false j u) (few_listed (side false j u) (flag_listed false j u flag) h)))
 
+    -- a point that meets the few sides keeps each limit, of a row with a new number, that the certificate uses
     row_met_at : (k : ℕ) (u : Bool) (r : IsAt (stays sides) (height m) k) → Is (end_of u (limits alone k)) →
         is_listed uses (side true k u) ≡ true → IsWithin u (end_of u (limits alone k)) (activity alone z k)
     row_met_at k u r there h =
@@ -86,6 +95,7 @@ module _ (m : Model) (sides : List Side) (present : All (IsSide m) sides) (cert 
         (subst (λ k. IsWithin u (end_of u k) (activity m z i)) (sym same)
         (chosen_within u (has_lower sides true i) (has_upper sides true i) (limits m i) (activity m z i) here)))
 
+    -- a point that meets the few sides meets each side that the certificate uses in the model with the sides alone
     side_met : (s : Side) → IsSide alone s → is_listed uses s ≡ true → Meets alone z s
     side_met s present h = by s.row s.at s.upper present h
       where
@@ -96,7 +106,8 @@ module _ (m : Model) (sides : List Side) (present : All (IsSide m) sides) (cert 
             (rank_onto (stays sides) (height m) k (subst (λ n. k < n) (height-only m sides) s.inside)) s.there h
         by false j u s h = column_met j u s h
 
-  -- no point meets those that the certificate uses
+  -- where the checker accepts a certificate of infeasibility for the model with these sides alone, no point meets those
+  -- that it uses
   pub few_clash : (limit : Option ℕ) → IsFor alone cert → check_run limit alone cert ≡ Ok known.Infeasible →
       IsClash m sides few
   few_clash limit fits accepted = record {

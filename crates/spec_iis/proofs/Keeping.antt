@@ -77,27 +77,31 @@ only_within m sides k =
     }
 
 module _ {limits : SizeLimits} (m : Model) (sides : List Side) (k : IsModelWithin limits m) where
+  -- the rows of the model with some sides alone have the names of the rows that stay, in order
   row_names-only : row_names (only m sides) ≡ picked (stays sides) (λ i. (only_row_at m sides i).name) (height m)
   unfolding only
   row_names-only = map-picked (stays sides) (λ (r : ExactRow). r.name) (only_row_at m sides) (height m)
 
-  -- each name is the row's own
+  -- row i with some sides alone has the name of row i
   name_own : (i : ℕ) → i < height m → (e : Name) → (only_row_at m sides i).name ≡ get_or (row_names m) i e
   name_own i l e =
       name_of_only (has_lower sides true i) (has_upper sides true i) (row m i)
       ∙ sym (name_at (λ (r : ExactRow). r.name) m.rows i no_row e l)
 
+  -- two rows of a kept model have different names with some sides alone
   names_apart : (i j : ℕ) → i < j → j < height m → (only_row_at m sides i).name ≢ (only_row_at m sides j).name
   names_apart i j l h =
       let a : i < height m = omega arith in
       subst₂ (λ x y. x ≢ y) (sym (name_own i a [])) (sym (name_own j h []))
       (k.rows_distinct (suc i) (suc j) [] (omega arith) (omega (arith, length-map m.rows (λ (r : ExactRow). r.name))))
 
+  -- no row with some sides alone has the name of the objective
   not_objective : (i : ℕ) → i < height m → m.objective ≢ (only_row_at m sides i).name
   not_objective i l =
       subst (λ y. m.objective ≢ y) (sym (name_own i l []))
       (k.rows_distinct zero (suc i) [] (omega arith) (omega (arith, length-map m.rows (λ (r : ExactRow). r.name))))
 
+  -- in the model with some sides alone no two of the rows and the objective have one name
   only_rows_distinct : AllPairs (λ x y. x ≢ y) (m.objective ∷ row_names (only m sides))
   only_rows_distinct =
       subst (λ names. AllPairs (λ x y. x ≢ y) (m.objective ∷ names)) (sym row_names-only)
@@ -106,17 +110,21 @@ module _ {limits : SizeLimits} (m : Model) (sides : List Side) (k : IsModelWithi
       (λ i l e. not_objective i l))
       (AllPairs-picked (stays sides) (λ x y. x ≢ y) (λ i. (only_row_at m sides i).name) (height m) names_apart))
 
+  -- column j of the model with some sides alone is column j with its listed bounds and entries that stay
   columns_are : (j : ℕ) (d : ExactColumn) → j < width m →
       get_or (made (width m) (only_column_at m sides)) j d ≡ only_column_at m sides j
   columns_are j d l = get_or-made (width m) (only_column_at m sides) j d l
 
+  -- the model with some sides alone has as many columns as the model
   few : length (made (width m) (only_column_at m sides)) ≡ width m
   few = length-made (width m) (only_column_at m sides)
 
+  -- what holds of each column of the model with some sides alone holds of the list of them
   All-columns : (P : ExactColumn → Type 0) → ((j : ℕ) → j < width m → P (only_column_at m sides j)) →
       All P (made (width m) (only_column_at m sides))
   All-columns P h = λ j d l. let b : j < width m = omega (arith, few) in subst P (sym (columns_are j d b)) (h j b)
 
+  -- in the model with some sides alone no two columns have one name
   only_columns_distinct : AllPairs (λ x y. x ≢ y) (column_names (only m sides))
   unfolding only
   only_columns_distinct = λ i j d l h.
@@ -133,6 +141,7 @@ module _ {limits : SizeLimits} (m : Model) (sides : List Side) (k : IsModelWithi
           ∙ sym (name_at (λ (c : ExactColumn). c.name) (made (width m) (only_column_at m sides)) j no_column e
           (omega (arith, few)) ∙ ap (λ (c : ExactColumn). c.name) (columns_are j no_column l))
 
+  -- each column of a kept model with some sides alone may be kept over the rows that stay
   kept_column : (j : ℕ) → j < width m → IsKeptColumn (rank (stays sides) (height m)) (only_column_at m sides j)
   kept_column j l =
       let c = k.columns j no_column l in
@@ -143,6 +152,7 @@ module _ {limits : SizeLimits} (m : Model) (sides : List Side) (k : IsModelWithi
         entries = only_entries-kept (stays sides) (height m) (column m j).entries c.entries;
       }
 
+  -- each column of a kept model with some sides alone has numbers of at most 127 bits
   narrow_column : (j : ℕ) → j < width m → IsNarrowColumn (only_column_at m sides j)
   narrow_column j l =
       let c = k.narrow_columns j no_column l in
@@ -153,6 +163,7 @@ module _ {limits : SizeLimits} (m : Model) (sides : List Side) (k : IsModelWithi
         entries = only_entries-narrow (stays sides) (column m j).entries c.entries;
       }
 
+  -- a model that is kept within limits of size is so with some sides alone, if the rows' numbers have at most 127 bits
   pub only_kept : All IsNarrowRow (only m sides).rows → IsModelWithin limits (only m sides)
   unfolding only
   only_kept narrow = record {

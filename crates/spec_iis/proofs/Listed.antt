@@ -31,6 +31,7 @@ same_way_refl : (a : Bool) → same_way a a ≡ true
 same_way_refl true = refl
 same_way_refl false = refl
 
+-- the upper or lower side, by the second flag, of row i if the first flag says so, else of column i
 abbrev side : Bool → ℕ → Bool → Side
 side r i u = record { row = r; at = i; upper = u }
 

@@ -21,13 +21,16 @@ use Rattle.spec_iis.proofs.Picked.{IsAt, rank_mono, rank_onto, length-picked, ge
 use Rattle.spec_iis.proofs.Entries.{entry_of-only}
 
 -- ---- the limits that stay
+-- the second of two flags, for the upper side, where the first argument says upper; else the first, for the lower side
 abbrev pub if_listed_of : Bool → Bool → Bool → Bool
 if_listed_of true a b = b
 if_listed_of false a b = a
 
+-- a number is there
 abbrev pub Is : Option ℚ → Type 0
 Is o = (b : ℚ) × (o ≡ Some b)
 
+-- the limits whose flags are set, the lower and the upper one; the others absent
 abbrev pub chosen : Bool → Bool → Limits → Limits
 chosen lower upper l = record { lower = if_listed lower l.lower; upper = if_listed upper l.upper }
 
@@ -51,23 +54,28 @@ limits_of-chosen lower upper r f g h = by lower upper (limits_of r).lower (limit
     by false false l u p q f g h = absurd (let z : false ≡ true = h in cc)
 
 module _ (m : Model) (sides : List Side) where
+  -- the model with some sides alone has as many columns as the model
   pub width-only : width (only m sides) ≡ width m
   unfolding only
   width-only = length-made (width m) (only_column_at m sides)
 
+  -- the model with some sides alone has as many rows as stay
   pub height-only : height (only m sides) ≡ rank (stays sides) (height m)
   unfolding only
   height-only = length-picked (stays sides) (only_row_at m sides) (height m)
 
+  -- column j of the model with some sides alone is column j with its listed bounds and the entries that stay
   column-only : (j : ℕ) → j < width m → column (only m sides) j ≡ only_column_at m sides j
   unfolding only
   column-only j l = get_or-made (width m) (only_column_at m sides) j no_column l
 
+  -- a row that stays is, under its new number, the row with its listed sides alone
   row-only : (i : ℕ) → i < height m → stays sides i ≡ true →
       row (only m sides) (rank (stays sides) i) ≡ only_row_at m sides i
   unfolding only
   row-only i l h = get_or-picked (stays sides) (only_row_at m sides) (height m) i no_row l h
 
+  -- a row that stays has at each point the same activity in the model with some sides alone, under its new number
   pub activity-only : (z : List ℚ) (i : ℕ) → stays sides i ≡ true →
       activity (only m sides) z (rank (stays sides) i) ≡ activity m z i
   activity-only z i h =
@@ -77,14 +85,18 @@ module _ (m : Model) (sides : List Side) where
       (ap (λ (c : ExactColumn). entry_of c.entries (rank (stays sides) i)) (column-only j l)
       ∙ entry_of-only (stays sides) (column m j).entries i h))
 
+  -- in the model with some sides alone column j has those of its bounds that are listed
   pub bounds-only : (j : ℕ) → j < width m →
       bounds (only m sides) j ≡ chosen (has_lower sides false j) (has_upper sides false j) (bounds m j)
   bounds-only j l = ap bounds_of (column-only j l)
 
   module _ (present : All (IsSide m) sides) where
+    -- each listed side is a limit or bound that the model has
     side_there : (s : Side) → is_listed sides s ≡ true → Is (end_of s.upper (limits_at m s))
     side_there s h = (listed_holds (IsSide m) sides s present h).there
 
+    -- in the model with some sides alone a row that stays has, under its new number, those of its limits that are
+    -- listed
     pub limits-only : (i : ℕ) → i < height m → stays sides i ≡ true →
         limits (only m sides) (rank (stays sides) i)
         ≡ chosen (has_lower sides true i) (has_upper sides true i) (limits m i)
@@ -120,6 +132,7 @@ or_left : (a b : Bool) → a ≡ true → a || b ≡ true
 or_left true b h = refl
 or_left false b h = absurd (let z : false ≡ true = h in cc)
 
+-- the upper or lower side, by the second flag, of row i if the first flag says so, else of column i
 abbrev pub side : Bool → ℕ → Bool → Side
 side r i u = record { row = r; at = i; upper = u }
 
@@ -129,11 +142,13 @@ stays_by sides i true h = or_right (has_lower sides true i) (has_upper sides tru
 stays_by sides i false h = or_left (has_lower sides true i) (has_upper sides true i) h
 
 module _ (m : Model) (sides : List Side) (present : All (IsSide m) sides) where
+  -- where a side of a row or column is listed, the flag for this side is set
   flag_by : (r : Bool) (i : ℕ) (u : Bool) → is_listed sides (side r i u) ≡ true →
       if_listed_of u (has_lower sides r i) (has_upper sides r i) ≡ true
   flag_by r i true h = h
   flag_by r i false h = h
 
+  -- a point that is feasible with some sides alone meets each of them
   met_by : (z : List ℚ) → IsFeasible (only m sides) z → (s : Side) → is_listed sides s ≡ true → IsSide m s → Meets m z s
   met_by z f s h k = by s.row s.at s.upper h k.inside
     where
@@ -154,12 +169,14 @@ module _ (m : Model) (sides : List Side) (present : All (IsSide m) sides) where
           (subst (λ k. IsBetween k (part z j)) (bounds-only m sides j l)
           (f.columns j (subst (λ n. j < n) (sym (width-only m sides)) l)))
 
+  -- a point that is feasible with some sides alone has a value for each column and meets each of these sides
   pub points_meet : (z : List ℚ) → IsFeasible (only m sides) z → MeetsAll m sides z
   points_meet z f = record {
     one_each = f.one_each ∙ width-only m sides;
     met = λ k d l. met_by z f (get_or sides k d) (all_listed sides k d l) (present k d l);
   }
 
+  -- a point that has a value for each column and meets each of some sides is feasible with these sides alone
   pub meeting_points : (z : List ℚ) → MeetsAll m sides z → IsFeasible (only m sides) z
   meeting_points z h = record {
     one_each = h.one_each ∙ sym (width-only m sides);

@@ -19,6 +19,7 @@ use Rattle.spec_iis.proofs.Used.{All-gathered, All-side_if}
 use Rattle.spec_iis.proofs.Points.{side}
 
 module _ (limit : Option ℕ) (m : Model) (y : List ℚ) where
+  -- where the check has taken what row i asks, it has read the exact limit that the sign of the row's multiplier needs
   read_row : (i : ℕ) (s u : ℚ) → row_asks_run limit m y i s ≡ Ok u →
       ((lt_ℚ 0ℚ (part y i) ≡ true → lower_run limit (row m i) ≡ Ok (limits m i).lower)
       × (lt_ℚ (part y i) 0ℚ ≡ true → upper_run limit (row m i) ≡ Ok (limits m i).upper))
@@ -51,10 +52,12 @@ module _ (limit : Option ℕ) (m : Model) (y : List ℚ) where
           (λ e. absurd (let g : false ≡ true = e in cc), λ e. absurd (let g : false ≡ true = e in cc))
 
   module _ (e : check_run limit m (Infeasible y) ≡ Ok known.Infeasible) where
+    -- the check of infeasible multipliers accepts them
     run_is : infeasible_run limit m y ≡ Ok known.Infeasible
     unfolding check_run
     run_is = e
 
+    -- where the check accepts multipliers, it has read for each row the exact limit that the multiplier's sign needs
     rows_read : (i : ℕ) → i < height m →
         ((lt_ℚ 0ℚ (part y i) ≡ true → lower_run limit (row m i) ≡ Ok (limits m i).lower)
         × (lt_ℚ (part y i) 0ℚ ≡ true → upper_run limit (row m i) ≡ Ok (limits m i).upper))
@@ -63,6 +66,7 @@ module _ (limit : Option ℕ) (m : Model) (y : List ℚ) where
         let b = some_ok_at 0ℚ (height m) (row_asks_run limit m y) a.0 a.1 i l in
         read_row i b.0 b.1 b.2
 
+    -- where the check accepts multipliers, it has worked out their exact part in each column
     pub priced_read : (j : ℕ) → j < width m → priced_run limit m y j ≡ Ok (priced m y j)
     priced_read j l =
         let a = after_ok (rows_ask_run limit m y) _ known.Infeasible run_is in
@@ -71,6 +75,7 @@ module _ (limit : Option ℕ) (m : Model) (y : List ℚ) where
         let g = after_ok (priced_run limit m y j) (λ g. weighed 2 limit (turned_limits (bounds m j)) g b.0) b.1 b.2 in
         g.1 ∙ ap Ok (products_ok limit (height m) (λ i. part y i) (λ i. coefficient m i j) g.0 g.1)
 
+-- where the check at a limit accepts a certificate, the limit refuses none of the row limits that it uses
 pub used_read : (limit : Option ℕ) (m : Model) (cert : Certificate (List ℚ)) →
     check_run limit m cert ≡ Ok known.Infeasible → All (IsRead limit m) (used m cert)
 unfolding used row_sides column_sides

@@ -68,39 +68,47 @@ met_if P true o h k e = subst (λ o. IfSome o P) e (h refl)
 met_if P false o h k e = absurd (let z : None ≡ Some k = e in cc)
 
 module _ (m : Model) (y : List ℚ) where
-  -- a row's multiplier, and the multipliers' part in a column
+  -- the multiplier of row i
   abbrev d : ℕ → ℚ
   d i = part y i
 
+  -- the part of the multipliers in column j: the sum of its coefficients times the multipliers of their rows
   abbrev g : ℕ → ℚ
   g j = priced m y j
 
+  -- the sides that the multipliers use, those of rows first
   abbrev uses : List Side
   uses = gathered (λ i. row_sides i (d i)) (height m) ++ gathered (λ j. column_sides j (g j)) (width m)
 
+  -- a side that the multiplier of row i uses is among those that all multipliers use
   row_listed : (i : ℕ) (s : Side) → i < height m → is_listed (row_sides i (d i)) s ≡ true → is_listed uses s ≡ true
   row_listed i s l h = listed_left _ _ s (listed_gathered (λ i. row_sides i (d i)) (height m) i s l h)
 
+  -- a side of column j that the multipliers use is among those that they use in all
   column_listed : (j : ℕ) (s : Side) → j < width m → is_listed (column_sides j (g j)) s ≡ true → is_listed uses s ≡ true
   column_listed j s l h =
       listed_right (gathered (λ i. row_sides i (d i)) (height m)) _ s
       (listed_gathered (λ j. column_sides j (g j)) (width m) j s l h)
 
+  -- where the multiplier of a row is above 0, the multipliers use the row's lower limit
   lower_row : (i : ℕ) → i < height m → lt_ℚ 0ℚ (d i) ≡ true → is_listed uses (side true i false) ≡ true
   unfolding row_sides
   lower_row i l h = row_listed i (side true i false) l (listed_left _ _ (side true i false) (listed_if _ (side true i false) h))
 
+  -- where the multiplier of a row is below 0, the multipliers use the row's upper limit
   upper_row : (i : ℕ) → i < height m → lt_ℚ (d i) 0ℚ ≡ true → is_listed uses (side true i true) ≡ true
   unfolding row_sides
   upper_row i l h =
       row_listed i (side true i true) l
       (listed_right (side_if (lt_ℚ 0ℚ (d i)) (side true i false)) _ (side true i true) (listed_if _ (side true i true) h))
 
+  -- where the multipliers' part in a column is below 0, they use the column's lower bound
   lower_column : (j : ℕ) → j < width m → lt_ℚ (g j) 0ℚ ≡ true → is_listed uses (side false j false) ≡ true
   unfolding column_sides
   lower_column j l h =
       column_listed j (side false j false) l (listed_left _ _ (side false j false) (listed_if _ (side false j false) h))
 
+  -- where the multipliers' part in a column is above 0, they use the column's upper bound
   upper_column : (j : ℕ) → j < width m → lt_ℚ 0ℚ (g j) ≡ true → is_listed uses (side false j true) ≡ true
   unfolding column_sides
   upper_column j l h =
@@ -108,6 +116,7 @@ module _ (m : Model) (y : List ℚ) where
       (listed_right (side_if (lt_ℚ (g j) 0ℚ) (side false j false)) _ (side false j true) (listed_if _ (side false j true) h))
 
   module _ (h : ChecksInfeasible m y) where
+    -- the sides that accepted multipliers use are sides of the model
     uses_present : All (IsSide m) uses
     unfolding row_sides column_sides
     uses_present =
@@ -123,6 +132,7 @@ module _ (m : Model) (y : List ℚ) where
         (All-side_if (IsSide m) (lt_ℚ 0ℚ (g j)) (side false j true)
         (λ e. record { inside = l; there = (h.columns j l).above (lt_if 0ℚ (g j) e) }))))
 
+    -- no point meets all sides that accepted multipliers use
     uses_infeasible : IsInfeasible (only m uses)
     uses_infeasible z f =
         infeasible (width m) (height m) (coefficient m)
@@ -151,15 +161,18 @@ module _ (m : Model) (y : List ℚ) where
 
 -- ---- a clash
 module _ (m : Model) (j : ℕ) (h : ChecksClash m j) where
+  -- both bounds of column j
   abbrev pair : List Side
   pair = side false j false ∷ side false j true ∷ []
 
+  -- both bounds of a column that clashes are sides of the model
   pair_present : All (IsSide m) pair
   pair_present =
       All-cons (IsSide m) (side false j false) (side false j true ∷ []) (record { inside = h.inside; there = (h.low, h.lower) })
       (All-cons (IsSide m) (side false j true) [] (record { inside = h.inside; there = (h.high, h.upper) })
       (All-nil (IsSide m)))
 
+  -- no point meets both bounds of a column that clashes
   pair_infeasible : IsInfeasible (only m pair)
   pair_infeasible z f =
       let met = (points_meet m pair pair_present z f).met in
@@ -173,6 +186,7 @@ module _ (m : Model) (j : ℕ) (h : ChecksClash m j) where
       (subst (λ o. IfSome o (λ k. part z j ≤ℚ k)) h.upper high))
 
 -- ---- a certificate
+-- the sides are sides of the model, and no point meets all of them
 pub record Clashes (m : Model) (sides : List Side) : Type 0 where
   pub present : All (IsSide m) sides
   pub infeasible : IsInfeasible (only m sides)

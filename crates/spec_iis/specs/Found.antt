@@ -21,11 +21,11 @@ use Rattle.spec_iis.specs.Only.{only}
 use Rattle.spec_iis.specs.Irreducible.{IsIrreducible, ArePointsWithout}
 use Rattle.spec_iis.specs.Rule.{used, Reaches}
 
--- what a search ends with, in exact numbers
+-- what a search for an irreducible infeasible subset ends with, in exact numbers
 abbrev pub ExactIis : Type 0
 ExactIis = Iis (List Side) (Certificate (List ℚ)) (List (List ℚ)) ExactSolveEnd
 
--- a solve of the model without a starting basis may end with `end`
+-- a solve of the model within this budget, without a starting basis, may end with `end`
 abbrev pub EndsCold : Model → ℕ → ExactSolveEnd → Type 0
 EndsCold m budget end = IsSolved m budget None (record { end = end; route = route.Cold })
 
@@ -35,8 +35,8 @@ pub record ShowsInfeasible (m : Model) (cert : Certificate (List ℚ)) : Type 0 
   pub narrow : IsNarrowCertificate cert
   pub accepted : check_run (Some number_limit) m cert ≡ Ok known.Infeasible
 
--- a solve of the model ends with a certificate that no point is feasible, and from the sides that this one uses the
--- rule reaches the set s
+-- a solve of the model may end with a certificate that no point is feasible, and the rule comes from the sides that
+-- this one uses to the set s
 pub record IsReached (m : Model) (budget : ℕ) (s : List Side) : Type 0 where
   pub certificate : Certificate (List ℚ)
   pub basis : Option (List Status)
@@ -53,7 +53,7 @@ pub record IsFound (m : Model) (budget : ℕ) (sides : List Side) (cert : Certif
   pub certificate : ShowsInfeasible (only m sides) cert
   pub without : ArePointsWithout m sides points
 
--- a solve ends in another way than with an infeasible model
+-- the solve ended with an optimum, as unbounded, or without an answer, but not as infeasible
 abbrev pub IsElse : ExactSolveEnd → Type 0
 IsElse (Ended known.Infeasible cert basis pivots) = ⊥
 IsElse (Ended (known.Optimal v) cert basis pivots) = Unit {0}
@@ -61,8 +61,8 @@ IsElse (Ended known.Unbounded cert basis pivots) = Unit {0}
 IsElse (Past p) = Unit {0}
 IsElse Spent = Unit {0}
 
--- The rule gives up. The model is infeasible, and a solve of it with only the sides of a set that the rule reaches ends
--- with `end`, without an answer.
+-- The rule gives up. The model is infeasible, and a solve of it with only the sides of a set that the rule reaches may
+-- end with `end`, without an answer.
 pub record IsStopped (m : Model) (budget : ℕ) (end : ExactSolveEnd) : Type 0 where
   pub infeasible : IsInfeasible m
   pub sides : List Side
@@ -70,7 +70,9 @@ pub record IsStopped (m : Model) (budget : ℕ) (end : ExactSolveEnd) : Type 0 w
   pub ends : EndsCold (only m sides) budget end
   pub gives_up : GivesUp end
 
--- what a search may end with, where each solve has this budget
+-- A search in the model may end with this, where each solve has this budget: an irreducible infeasible set; or the end
+-- of the model's own solve, if it is not that no point is feasible; or the end of a later solve that gives up, of a
+-- model without a feasible point.
 abbrev pub MayFind : Model → ℕ → ExactIis → Type 0
 MayFind m budget (Found sides cert points) = IsFound m budget sides cert points
 MayFind m budget (Other end) = EndsCold m budget end × IsElse end

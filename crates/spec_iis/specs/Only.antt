@@ -13,56 +13,58 @@ use Rattle.spec_iis.specs.Sides.{is_listed}
 
 -- ---- which sides are listed
 
--- whether the lower side of a row, or of a column, with number k is listed
+-- whether the list has the lower side of row k, or of column k where the flag says no row
 abbrev pub has_lower : List Side → Bool → ℕ → Bool
 has_lower sides of_row k = is_listed sides (record { row = of_row; at = k; upper = false })
 
--- whether the upper side of a row, or of a column, with number k is listed
+-- whether the list has the upper side of row k, or of column k where the flag says no row
 abbrev pub has_upper : List Side → Bool → ℕ → Bool
 has_upper sides of_row k = is_listed sides (record { row = of_row; at = k; upper = true })
 
--- a row stays if a side of it does
+-- whether row i stays in the model with these sides alone: its lower or its upper side is listed
 abbrev pub stays : List Side → ℕ → Bool
 stays sides i = has_lower sides true i || has_upper sides true i
 
 -- ---- rows
 
--- a row with one limit, of this kind
+-- the row r with b as its only limit, without a range: the lower limit for the kind G, the upper one for the kind L
 abbrev pub single : Kind → ExactRow → ℚ → ExactRow
 single kind r b = record { name = r.name; kind = kind; rhs = b; range = None }
 
--- A row with those of its two limits that are kept. Where one of both is kept, it becomes the right side; else the row
--- stays as it is.
+-- A row with one of its two limits, where it has both and the flags keep just one: this becomes the right side of a row
+-- of kind G or L. Else the row stays as it is.
 abbrev pub with_sides : Bool → Bool → ExactRow → Option ℚ → Option ℚ → ExactRow
 with_sides true false r (Some low) (Some high) = single G r low
 with_sides false true r (Some low) (Some high) = single L r high
 with_sides lower upper r low high = r
 
--- a row with its lower side, its upper one or both
+-- a row with its lower side alone, or its upper one alone, as the flags say; as it is where both or none are kept, or
+-- where it has not both
 unfoldable pub only_row : Bool → Bool → ExactRow → ExactRow
 only_row lower upper r = with_sides lower upper r (limits_of r).lower (limits_of r).upper
 
--- f 0 .. f (n - 1), but for those that do not pass
+-- the list of those of f 0 .. f (n - 1) whose numbers pass the test, in order
 abbrev pub picked : {A : Type 0} → (ℕ → Bool) → (ℕ → A) → ℕ → List A
 picked p f zero = []
 picked p f (suc n) = if p n then picked p f n ++ f n ∷ [] else picked p f n
 
--- how many below k pass: the number of row k among those that stay
+-- how many numbers below k pass the test: the new number of row k, if those that pass stay
 abbrev pub rank : (ℕ → Bool) → ℕ → ℕ
 rank p zero = 0
 rank p (suc k) = if p k then rank p k + 1 else rank p k
 
--- row i with its listed sides
+-- row i of the model with its listed sides alone; as it is where both or none are listed, or it has not both limits
 abbrev pub only_row_at : Model → List Side → ℕ → ExactRow
 only_row_at m sides i = only_row (has_lower sides true i) (has_upper sides true i) (row m i)
 
--- a side of the model as a side of the model with some sides alone, in which the rows that stay have new numbers
+-- a side of the model as a side of the model with some sides alone: a side of a row gets the new number of the row
+-- among those that stay, a side of a column is unchanged
 abbrev pub renumbered : List Side → Side → Side
 renumbered sides s = record { row = s.row; at = if s.row then rank (stays sides) s.at else s.at; upper = s.upper }
 
 -- ---- columns
 
--- a bound that is listed, or none
+-- the bound if it is listed, else none
 abbrev pub if_listed : Bool → Option ℚ → Option ℚ
 if_listed listed bound = if listed then bound else None
 
@@ -70,7 +72,7 @@ if_listed listed bound = if listed then bound else None
 unfoldable pub only_entries : (ℕ → Bool) → List (ℕ × ℚ) → List (ℕ × ℚ)
 only_entries p entries = map (λ e. (rank p e.0, e.1)) (filter (λ e. p e.0) entries)
 
--- column j with its listed bounds, at the cost 0, with the entries in rows that stay
+-- column j with its listed bounds alone, the cost 0, and its entries in rows that stay
 abbrev pub only_column_at : Model → List Side → ℕ → ExactColumn
 only_column_at m sides j =
     record {
@@ -83,7 +85,8 @@ only_column_at m sides j =
 
 -- ---- the whole, whose objective is 0
 
--- the model with these sides alone, and the objective 0
+-- The model with these limits and bounds alone, where it has each of them. Rows without a listed side are left out,
+-- each column stays with its listed bounds, and the objective is 0, to be made least.
 unfoldable pub only : Model → List Side → Model
 only m sides =
     record {

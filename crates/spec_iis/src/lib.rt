@@ -40,20 +40,21 @@ ghost use Rattle.spec_iis.specs.Rule.{used, used_among, IsClash, IsFiltered, IsR
 pub use outcome::Iis;
 pub use side::Side;
 
-/// The points that are feasible for some sides alone are those that meet each of these.
+/// The points that are feasible in a model with some of its sides alone are those that have one value for each column
+/// and meet each of these sides.
 pub fn points_of_sides_meet_them()
     ensures { (m : Model) (sides : List Side) (z : List ℚ) →
         All (IsSide m) sides → (IsFeasible (only m sides) z ↔ MeetsAll m sides z) }
 {}
 
-/// Fewer sides have more points.
+/// A point that is feasible in a model with some of its sides alone is feasible in it with fewer of them alone.
 pub fn fewer_sides_have_more_points()
     ensures { (m : Model) (few more : List Side) (z : List ℚ) → All (IsSide m) more →
         Among few more → IsFeasible (only m more) z → IsFeasible (only m few) z }
 {}
 
-/// The sides that an accepted certificate uses are sides of the model, and no point meets them together. Where the
-/// certificate is accepted at a limit, none of their limits is refused there.
+/// The sides that an accepted certificate of infeasibility uses are sides of the model, and no point meets them
+/// together. Where the certificate is accepted at a limit, none of their limits is refused there.
 pub fn used_sides_are_infeasible()
     ensures present { (limit : Option ℕ) (m : Model) (cert : Certificate (List ℚ)) → IsFor m cert →
         check_run limit m cert ≡ Ok known.Infeasible → All (IsSide m) (used m cert) }
@@ -63,15 +64,16 @@ pub fn used_sides_are_infeasible()
         check_run limit m cert ≡ Ok known.Infeasible → All (IsRead limit m) (used m cert) }
 {}
 
-/// Where the checker accepts a certificate for the model with some sides alone, those of them that the certificate uses
-/// are infeasible together.
+/// Where the checker accepts a certificate of infeasibility for a model with some of its sides alone, those of them
+/// that the certificate uses are infeasible together.
 pub fn sides_that_a_certificate_uses_clash()
     ensures { (limit : Option ℕ) (m : Model) (sides : List Side) (cert : Certificate (List ℚ)) → All (IsSide m) sides →
         IsFor (only m sides) cert → check_run limit (only m sides) cert ≡ Ok known.Infeasible →
         IsClash m sides (used_among m sides cert) }
 {}
 
-/// Where a few of some sides clash, no point meets them all; and each that is none of the few can be left out.
+/// Where no point meets a few of a model's sides, no point meets these and more of its sides. A few of some sides are
+/// still among them without any one that is none of the few.
 pub fn sides_beside_a_clash_are_not_needed()
     ensures all { (m : Model) (sides few : List Side) → All (IsSide m) sides → IsClash m sides few →
         IsInfeasible (only m sides) }

@@ -1,7 +1,7 @@
 // What a search for an irreducible infeasible subset ends with, over the type S of lists of sides, C of certificates,
 // P of lists of points and E of ends of solves.
 
-/// What is found of a model.
+/// What a search for an irreducible infeasible subset of a model ends with.
 #[derive(Drop)]
 pub enum Iis<S, C, P, E> {
     /// No point meets these sides together.
