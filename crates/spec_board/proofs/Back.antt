@@ -40,6 +40,7 @@ code_back (suc (suc (suc n))) h = omega (arith, h)
 -- ---- the words
 module _ (f : Form) (is : IsForm f) (words : List ℕ)
     (same : take 25 words ≡ shape_of f) (well : IsWellFormed words) where
+  -- the code of a column's status in the unpacked basis is what the words have in that column's bits
   status_bits : (c : ℕ) → c < 768 → basis_code (unpacked words) c ≡ code_at 25 words c
   status_bits c h = ⊎_elim inside outside (cases_lt c (columns_of words))
     where
@@ -49,7 +50,7 @@ module _ (f : Form) (is : IsForm f) (words : List ℕ)
       outside : columns_of words ≤ c → basis_code (unpacked words) c ≡ code_at 25 words c
       outside l = basis_unused (unpacked words) c (omega (arith, l, unpacked_length words)) ∙ sym (well.rest c l h).1
 
-  -- word w of the statuses, bit by bit
+  -- status word w of the unpacked and again packed words has the same two bits of each column as that of the words
   status_digit : (w k : ℕ) → w < 24 → k < 32 →
       get_or (packed f (unpacked words)) (25 + w) 0 / 2 ^ (2 * k) % 4 ≡ get_or words (25 + w) 0 / 2 ^ (2 * k) % 4
   status_digit w k h l =
@@ -62,6 +63,7 @@ module _ (f : Form) (is : IsForm f) (words : List ℕ)
           ap (λ i. get_or ws (25 + i) 0 / 2 ^ (2 * ((32 * w + k) % 32)) % 4) z)
           ∙ (let z : (32 * w + k) % 32 ≡ k = omega (arith, l) in ap (λ i. get_or ws (25 + w) 0 / 2 ^ (2 * i) % 4) z)
 
+  -- such words, each below 2 ^ 64, are unpacked to a basis whose packed words are the same
   pub packed_unpacked : All (λ w. w < 2 ^ 64) words → packed f (unpacked words) ≡ words
   packed_unpacked small =
       ext_get_or 0 (packed f (unpacked words)) words (packed_length f (unpacked words) ∙ sym well.all)

@@ -1,8 +1,8 @@
 -- The two bits that each column has in a word.
 --
 -- `next_power`: 2 ^ (2 n + 2) is 4 times 2 ^ (2 n).
--- `word_fits`: a word of n columns has 2 n bits.
--- `digit_is`: bits 2 k and 2 k + 1 of a word are the code of the column k after its first one.
+-- `word_fits`: a word of n columns, each with a code below 4, is below 2 ^ (2 n).
+-- `digit_is`: bits 2 k and 2 k + 1 of a word from column c on are the code of column c + k.
 use Rattle.std.proofs.Common.{◌≡◌, ℕ, zero, suc, ◌+◌, ◌*◌, ◌/◌, ◌%◌, ◌^◌, ◌<◌, sym, ap, ◌∙◌, arith}
 use Rattle.std.proofs.lemmas.Nat.{pow-add, shr-shr}
 use Rattle.spec_board.specs.Words.{word_from}
@@ -16,6 +16,7 @@ module _ (code : ℕ → ℕ) (small : (c : ℕ) → code c < 4) where
   word_fits c zero = omega arith
   word_fits c (suc n) = omega (arith, next_power n, small c, word_fits (c + 1) n)
 
+  -- a word of n + 1 columns has from bit 2 (k + 1) on what the word of the n later columns has from bit 2 k on
   past_first : (c n k : ℕ) →
       (code c + 4 * word_from code (c + 1) n) / 2 ^ (2 * suc k) ≡ word_from code (c + 1) n / 2 ^ (2 * k)
   past_first c n k =

@@ -1,4 +1,4 @@
--- A look finds what is done with its shape when it begins, or something newer.
+-- Where a place is done with the shape of a look when this begins, it finds that place or a newer one.
 use Rattle.std.proofs.Common.{◌≡◌, ℕ, zero, suc, ◌<◌, ◌≤◌, Bool, true, false, List, [], ◌∷◌, ◌++◌, length, take, Option}
 use Rattle.std.proofs.Common.{Some, nat_eq, eqb-true, cond, refl, sym, ap, ◌∙◌, subst, ⊎_elim, inl, inr, arith}
 use Rattle.std.proofs.lemmas.Bool.{cases_eq}
@@ -40,14 +40,17 @@ done_same a b e =
 -- ---- one read after the other
 
 module _ (places session : ℕ) (shape : Words) (k : ℕ) (words : Words) (shaped : has_shape shape words ≡ true) where
+  -- among the claimed places `now`, place k is done with these words, which have the shape
   abbrev IsDone : List ExactPlace → Type 0
   IsDone now = place_at now k ≡ Some (place.Done words)
 
+  -- after any session's read, place k is still done with these words
   stays_done : (now next : List ExactPlace) (x : Logged) → Answers places now x.session x.read next → IsDone now →
       IsDone next
   stays_done now next x a done = answers_keep places x.session now next x.read k (place.Done words) a (λ e. cc) done
 
-  -- the read of place j, as a look comes down to it
+  -- While place k is done with the shape, a look that sees place j done, with k at most j, finds place k or a newer
+  -- one, if it does so from the places below j.
   by_seen : (j : ℕ) (seen : Words) (reads : List ExactRead) (found : Looked) (now next : List ExactPlace) (t : Bool) →
       has_shape shape seen ≡ t → k ≤ j → Answers places now session (Seen j seen) next → IsDone now →
       (k < j → SeesDown shape j reads found → FindsFrom k found) →
@@ -62,6 +65,8 @@ module _ (places session : ℕ) (shape : Words) (k : ℕ) (words : Words) (shape
       sym shaped ∙ ap (has_shape shape) payload ∙ sym (shown_shape shape a.0 seen a.2) ∙ is in cc)
       (λ (n : k ≡ j → ⊥). more (omega arith) s.1) (cases_eq k j)
 
+  -- While place k is done with the shape, a look whose next read is that of place j, with k at most j, finds place k or
+  -- a newer one, if it does so from the places below j.
   by_read : (r : ExactRead) (j : ℕ) (reads : List ExactRead) (found : Looked) (now next : List ExactPlace) → k < suc j →
       Answers places now session r next → IsDone now →
       (k < j → SeesDown shape j reads found → FindsFrom k found) → SeesDown shape (suc j) (r ∷ reads) found →
@@ -78,6 +83,8 @@ module _ (places session : ℕ) (shape : Words) (k : ℕ) (words : Words) (shape
   by_read (Lost c) j reads found now next l a done more s = absurd s
   by_read (Done i done_words) j reads found now next l a done more s = absurd s
 
+  -- while place k is done with the shape, a look that still has the places below c to see, k among them, finds place k
+  -- or a newer one
   comes_down : (log : List Logged) (now last : List ExactPlace) (c : ℕ) (seen : List ExactRead) (found : Looked) →
       Plays places now log last → IsDone now → k < c → seen ≡ reads_in session log → SeesDown shape c seen found →
       FindsFrom k found
@@ -101,6 +108,7 @@ module _ (places session : ℕ) (shape : Words) (k : ℕ) (words : Words) (shape
       by false e next more =
           more (suc j) tt seen next l (are ∙ ap (λ b. cond b (x.read ∷ []) [] ++ reads_in session log) e) s
 
+  -- a session's look that begins while place k is done with words of the shape finds place k or a newer one
   pub finds : (log : List Logged) (now last : List ExactPlace) (found : Looked) → Plays places now log last →
       IsDone now → LookReads shape (reads_in session log) found → FindsFrom k found
   finds [] now last found p done look =

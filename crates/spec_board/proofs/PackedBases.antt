@@ -41,7 +41,7 @@ can_suits AtZero None None h = refl
 can_suits AtZero None (Some u) h = cc
 can_suits AtZero (Some l) u h = cc
 
--- a column between bounds can have a status that suits the code of the bounds
+-- a status that suits the code of two bounds is one that a column between these bounds can have
 suits_can : (s : Status) (l u : Option ℚ) → suits s (bounds_code l u) ≡ true → CanStand s l u
 suits_can Basic l u h = tt
 suits_can AtLower None None h = let z : false ≡ true = h in cc
@@ -65,14 +65,17 @@ unfolding unpacked
 unpacked_at words c h = get_or-made (columns_of words) (status_at words) c Basic h
 
 module _ (f : Form) (is : IsForm f) where
+  -- a form has at most as many structural and logical columns as words have room for
   few : f.cols + f.rows ≤ places
   few = omega (arith, is.few_rows, is.few_columns)
 
   -- ---- packed words
   module _ (basis : List Status) (all : length basis ≡ f.cols + f.rows) where
+    -- the status of a column that the packed words say is that of the basis
     packed_status : (c : ℕ) → c < f.cols + f.rows → status_at (packed f basis) c ≡ basis_at basis c
     packed_status c h = ap status_of (basis_bits f basis c (omega (arith, h, few))) ∙ status_back (basis_at basis c)
 
+    -- the packed words of a list of statuses, one for each column, are unpacked to that list
     pub unpacked_packed : unpacked (packed f basis) ≡ basis
     unpacked_packed =
         ext_get_or Basic (unpacked (packed f basis)) basis
@@ -80,6 +83,7 @@ module _ (f : Form) (is : IsForm f) where
         (λ c h. let l : c < columns_of (packed f basis) = omega (arith, h, unpacked_length (packed f basis)) in
         unpacked_at (packed f basis) c l ∙ packed_status c (omega (arith, l, packed_columns f basis is)))
 
+  -- the packed words of a basis of the form are well formed
   pub packed_fits : (basis : List Status) → IsBasisOf f basis → IsWellFormed (packed f basis)
   packed_fits basis b = record {
     all = packed_length f basis;
@@ -99,22 +103,28 @@ module _ (f : Form) (is : IsForm f) where
 
   -- ---- well-formed words of the form's shape
   module _ (words : List ℕ) (same : take 25 words ≡ shape_of f) where
+    -- where words begin with the form's shape, each of their first 25 words is that of the shape
     pub same_word : (w : ℕ) → w < 25 → get_or words w 0 ≡ get_or (shape_of f) w 0
     same_word w h = sym (get_or-take 25 words w 0 h) ∙ ap (λ ws. get_or ws w 0) same
 
+    -- words that begin with the form's shape say its number of rows
     same_rows : rows_of words ≡ f.rows
     same_rows = ap (λ w. w / 65536) (same_word 0 (omega arith)) ∙ shape_rows f is
 
+    -- words that begin with the form's shape say its number of structural columns
     same_cols : cols_of words ≡ f.cols
     same_cols = ap (λ w. w % 65536) (same_word 0 (omega arith)) ∙ shape_cols f is
 
+    -- words that begin with the form's shape say its number of structural and logical columns
     same_columns : columns_of words ≡ f.cols + f.rows
     same_columns = ap₂ ◌+◌ same_cols same_rows
 
+    -- words that begin with the form's shape say of each column which bounds it has in the form
     same_bounds : (c : ℕ) → c < places → bounds_at words c ≡ form_code f c
     same_bounds c h =
         ap (λ w. w / 2 ^ (2 * (c % 32)) % 4) (same_word (1 + c / 32) (omega (arith, h))) ∙ shape_bits f c h
 
+    -- well-formed words that begin with the form's shape are unpacked to a basis of the form
     pub unpacked_fits : IsWellFormed words → IsBasisOf f (unpacked words)
     unpacked_fits w = record {
       all = unpacked_length words ∙ same_columns;

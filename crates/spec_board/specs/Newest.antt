@@ -5,12 +5,12 @@ use Rattle.spec_board.specs.declared.read.Found.{Found}
 use Rattle.spec_board.specs.Reads.{Words, Looked, LookReads, has_shape}
 use Rattle.spec_board.specs.Places.{ExactPlace, place_at, Logged, reads_in, Plays}
 
--- a place was found, this one or a newer one
+-- the look found something: place k, or a newer one
 abbrev pub FindsFrom : ℕ → Looked → Type 0
 FindsFrom k found = (newest : Found Words) × (found ≡ Some newest) × (k ≤ newest.place)
 
--- The log is of a time in which a session makes one look, and others do what they will. A place that is done with the
--- shape when the look begins is found, or a newer one is.
+-- Where a session makes one look while others do what they will: if place k is done with the shape as the look begins,
+-- it finds place k or a newer one.
 abbrev pub LooksFindTheNewest : Type 0
 LooksFindTheNewest =
     (places session : ℕ) (now last : List ExactPlace) (log : List Logged) (shape : Words) (found : Looked) (k : ℕ)

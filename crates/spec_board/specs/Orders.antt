@@ -13,8 +13,9 @@ abbrev pub InPairs : {X : Type 0} → (X → X → Type 0) → List X → Type 0
 InPairs R [] = Unit {0}
 InPairs R (x ∷ xs) = AllByRecursion (R x) xs × InPairs R xs
 
--- what an earlier read says of a later one: the count never falls, and a place that was done, or was published, is
--- below each count and done ever after
+-- What an earlier read of one reader asks of a later one. The numbers of claimed places that `Count` and `Lost` say
+-- never fall. A place that was seen done, or was written, is below each later `Count`, and is not seen as not done
+-- later. Of each other pair nothing is asked.
 abbrev pub AreInOrder : ExactRead → ExactRead → Type 0
 AreInOrder (Count c) (Count d) = c ≤ d
 AreInOrder (Count c) (Lost d) = c ≤ d
@@ -28,24 +29,26 @@ AreInOrder earlier later = Unit {0}
 
 -- ---- the reads of all
 
--- the place that a read says its reader wrote, in a list; none for each other read
+-- the place that a `Done` read says its reader published, as a list of one number; of each other read the empty list
 abbrev pub published_by : ExactRead → List ℕ
 published_by (Done k words) = k ∷ []
 published_by other = []
 
--- the places that were published
+-- the places that these reads published, in order
 abbrev pub published_in : List ExactRead → List ℕ
 published_in reads = flat_map published_by reads
 
--- A read of the board fits all reads: a count is at most `claimed`, and words that are seen in a place are words that
--- one of the reads published there, all of them or those in front.
+-- A read of the board fits all reads: a count of claimed places is at most `claimed`, and words that are seen in a
+-- place are words that one of the reads in `all` published there, all of them or those in front. Of each other read
+-- nothing is asked.
 abbrev pub IsBacked : List ExactRead → ℕ → ExactRead → Type 0
 IsBacked all claimed (Count c) = c ≤ claimed
 IsBacked all claimed (Lost c) = c ≤ claimed
 IsBacked all claimed (Seen k words) = (payload : Words) × Contains all (Done k payload) × IsShown payload words
 IsBacked all claimed other = Unit {0}
 
--- no place is published twice, and the published places are those below some number
+-- No place is published twice, the published ones are those below some number, no count is above it, and words that are
+-- seen in a place are words that one of these reads published there.
 pub record AreBacked (all : List ExactRead) : Type 0 where
   pub once : InPairs (λ j k. j ≡ k → ⊥) (published_in all)
   pub claimed : ℕ
@@ -54,7 +57,7 @@ pub record AreBacked (all : List ExactRead) : Type 0 where
 
 -- ---- the reads of all, in one order
 
--- the reads of one worker, which serves the sessions whose number leaves its own when divided by `workers`
+-- the reads of one worker in a log: those of the sessions whose number leaves the worker's when divided by `workers`
 abbrev pub log_of_worker : ℕ → ℕ → List Logged → List Logged
 log_of_worker workers worker log = filter (λ x. x.session % workers == worker) log
 

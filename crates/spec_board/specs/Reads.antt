@@ -8,7 +8,7 @@ use Rattle.spec_board.specs.declared.read.Put.TheVariants.{Published, Full, Race
 use Rattle.spec_board.specs.declared.read.Read.{Read}
 use Rattle.spec_board.specs.declared.read.Read.TheVariants.{Count, NotDone, Seen, Claim, Lost, Done}
 
--- the words of one place
+-- the words of one place, or those in front, as numbers
 abbrev pub Words : Type 0
 Words = List ℕ
 
@@ -18,19 +18,19 @@ ExactRead = Read Words
 
 -- ---- the words of a place
 
--- the number of words of a basis
+-- the number of words of a basis: 49
 abbrev pub basis_words : ℕ
 basis_words = 49
 
--- the number of words in front of a basis, which are the shape of its form
+-- the number of words in front of a basis, which are the shape of its form: 25
 abbrev pub shape_words : ℕ
 shape_words = 25
 
--- the words in front, which are the shape
+-- the first 25 words, which are the shape
 abbrev pub front : Words → Words
 front words = take shape_words words
 
--- whether words begin with a shape
+-- whether the words in front are this shape
 abbrev pub has_shape : Words → Words → Bool
 has_shape shape words = same (front words) shape
 
@@ -40,19 +40,20 @@ shown shape words = if has_shape shape words then words else front words
 
 -- ---- looks
 
--- what a look found, if it found a place
+-- what a look found: a place with its words; none where it saw no place that is done with the shape
 abbrev pub Looked : Type 0
 Looked = Option (Found Words)
 
--- What a place done with these words is for a look: the one that is found, of which all words are read and after which
--- nothing is; or one to pass over, of which only the words in front are read.
+-- What place k, done with these words, is for a look, by whether they have its shape. If so, it is the place that is
+-- found: all its words are read, and nothing after it. Else it is passed over: only the words in front are read, and
+-- `Rest` holds of what follows.
 abbrev pub SeenBy : Bool → ℕ → Words → List ExactRead → Looked → Type 0 → Type 0
 SeenBy true k words reads found Rest =
     (length words ≡ basis_words) × (reads ≡ []) × (found ≡ Some (record { place = k; words = words }))
 SeenBy false k words reads found Rest = (front words ≡ words) × Rest
 
--- From place k - 1 down the places are read one by one, to the first one that is done with the shape; it is found, and
--- without one nothing is.
+-- These reads go through the places from k - 1 down, one by one, to the first that is done with the shape, and that is
+-- found. Where none is, they go through all of them, and nothing is found.
 abbrev pub SeesDown : Words → ℕ → List ExactRead → Looked → Type 0
 SeesDown shape zero reads found = (reads ≡ []) × (found ≡ None)
 SeesDown shape (suc k) [] found = ⊥
@@ -61,7 +62,8 @@ SeesDown shape (suc k) (Seen j words ∷ reads) found =
     (j ≡ k) × SeenBy (has_shape shape words) k words reads found (SeesDown shape k reads found)
 SeesDown shape (suc k) (other ∷ reads) found = ⊥
 
--- a look reads how many places are claimed, and then these places from the newest down
+-- these are the reads of a look for this shape: the count of claimed places, and then these places from the newest
+-- down, to the one that is found, if one is
 pub record LookReads (shape : Words) (reads : List ExactRead) (found : Looked) : Type 0 where
   pub count : ℕ
   pub seen : List ExactRead
@@ -70,8 +72,8 @@ pub record LookReads (shape : Words) (reads : List ExactRead) (found : Looked) :
 
 -- ---- puts
 
--- What publishing words among `places` places reads and writes. It claims a place and writes it; or another session was
--- quicker, and e places are claimed; or all places are claimed.
+-- These are the reads and writes of one try to publish words among `places` places, which ends so: a place is claimed
+-- and written; or another session was quicker, and e places are claimed; or all places were claimed before.
 abbrev pub PutReads : ℕ → Words → Put → List ExactRead → Type 0
 PutReads places words (Published k) reads = (k < places) × (reads ≡ Count k ∷ Claim k ∷ Done k words ∷ [])
 PutReads places words (Raced e) reads = (c : ℕ) × (c < e) × (reads ≡ Count c ∷ Lost e ∷ [])

@@ -41,7 +41,8 @@ pub use place::Place;
 pub use read::{Found, Put, Read};
 pub use words::{BasisWords, ShapeWords};
 
-/// The words of a basis give it back.
+/// A list of statuses, one for each structural and each logical column of a form, is packed in words that are unpacked
+/// to the same list.
 pub fn words_give_the_basis()
     ensures { (f : Form) (basis : List Status) → IsForm f →
         length basis ≡ f.cols + f.rows → unpacked (packed f basis) ≡ basis }
@@ -59,8 +60,8 @@ pub fn words_of_one_shape_fit()
         take 25 words ≡ shape_of f → IsBasisOf f (unpacked words) }
 {}
 
-/// A basis of a form has exactly one list of words: well-formed words that begin with the form's shape are unpacked to
-/// a basis that is packed as the same words.
+/// A basis of a form has exactly one list of words: well-formed words of 64 bits that begin with the form's shape are
+/// unpacked to a basis that is packed as the same words.
 pub fn bases_have_one_list_of_words()
     ensures { (f : Form) (words : List ℕ) → IsForm f → IsWellFormed words →
         take 25 words ≡ shape_of f → All (λ w. w < 2 ^ 64) words →
@@ -73,7 +74,8 @@ pub fn one_shape_takes_the_same_bases()
         (basis : List Status) → IsBasisOf f basis → IsBasisOf g basis }
 {}
 
-/// The numbers of rows and columns, and the bits of each column, stand where they are read.
+/// From the packed words of a form and a basis the numbers of rows and columns are read back as the form has them. The
+/// bits of each column are read back as those of its bounds and of its status. Each of the words is below 2 ^ 64.
 pub fn bits_stand_at_their_columns()
     ensures rows { (f : Form) (basis : List Status) → IsForm f → rows_of (packed f basis) ≡ f.rows }
     ensures columns { (f : Form) (basis : List Status) → IsForm f → cols_of (packed f basis) ≡ f.cols }
@@ -84,8 +86,8 @@ pub fn bits_stand_at_their_columns()
         c < places → code_at 25 (packed f basis) c ≡ basis_code basis c }
 {}
 
-/// A look finds a place that is done with its shape when it begins, or a newer one, whatever other sessions do
-/// meanwhile.
+/// Where a place is done with the shape of a look when this begins, it finds that place or a newer one, whatever other
+/// sessions do meanwhile.
 pub fn looks_find_the_newest()
     ensures { LooksFindTheNewest }
 {}

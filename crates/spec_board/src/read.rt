@@ -7,7 +7,7 @@ pub enum Read<W> {
     Count(u32),
     /// This place was not done.
     NotDone(u32),
-    /// This place was done, with these words.
+    /// This place was done. These are its words, or only those in front.
     Seen(u32, W),
     /// This place was claimed by the reader.
     Claim(u32),
