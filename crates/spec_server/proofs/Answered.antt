@@ -12,12 +12,12 @@ use Rattle.spec_server.specs.Exchanges.{Exchange, asked_in, AloneRun, of_session
 use Rattle.spec_server.proofs.Dues.{IsKeptState, reads_of, reply_to, state_after, good_step, after_kept, ample_reply}
 use Rattle.spec_server.proofs.RunLemmas.{updated, runs_on}
 
--- an ask of a session in this state, with memory enough
+-- the exchange of a request with its session in this state, with memory enough: the reads and the reply made for it
 abbrev exchanged : ℕ → State → Asked ExactAsk → Exchange
 exchanged places state a =
     record { session = a.session; ask = a.ask; reads = reads_of places state a.ask; reply = reply_to state a.ask }
 
--- the exchanges of these asks with memory enough
+-- the exchanges of these requests, one after the other, with memory enough, where each session is in its state at first
 abbrev pub answered : ℕ → (ℕ → State) → List (Asked ExactAsk) → List Exchange
 answered places states [] = []
 answered places states (a ∷ asks) =

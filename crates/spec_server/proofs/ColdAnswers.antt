@@ -21,10 +21,12 @@ use Rattle.spec_server.proofs.Simply.{SolveStep, Does, WantsMemory, step_simply}
 module _ (budget : ℕ) (m : Model) (known : Known ℚ) (cert : Certificate (List ℚ))
     (basis : Option (List Status)) (pivots : ℕ)
     (found : cold (Some number_limit) budget m ≡ outcome.Ended known cert basis pivots) where
+  -- where the cold solve of the model ends with an answer, the reply to each end that a solve may have is that answer
   answers_known : (end : ExactSolveEnd) → MayAnswer m budget end → answer_of budget end ≡ reply.Known known
   answers_known end h =
       let k = cold_found m budget known cert basis pivots end found h in ap (answer_of budget) k.3
 
+-- where the cold solve of the held model ends with an answer, `SOLVE` is replied to with it, or with `MEMORY`
 pub solve_answers : (places : ℕ) (old new : State) (reads : List ExactRead) (replied : ExactReply) (m : Model)
     (known : Known ℚ) (cert : Certificate (List ℚ)) (basis : Option (List Status)) (pivots : ℕ) →
     old.model ≡ Some m → cold (Some number_limit) old.budget m ≡ outcome.Ended known cert basis pivots →

@@ -14,7 +14,7 @@ use Rattle.spec_server.specs.declared.asks.Reply.TheVariants as reply
 use Rattle.spec_server.specs.Machine.{verdict_on}
 use Rattle.spec_server.specs.HandedBack.{IsAcceptedBack}
 
--- The checker accepts the certificate of an answer that is read from the certificate's own lines.
+-- The certificate of an answer that a model may have is accepted, where it is read from its own lines.
 pub accepted_back : (m : Model) (budget : ℕ) (known : Known ℚ) (cert : Certificate (List ℚ))
     (basis : Option (List Status)) (pivots : ℕ) →
     IsModel m → MayAnswer m budget (Ended known cert basis pivots) → IsAcceptedBack m known cert

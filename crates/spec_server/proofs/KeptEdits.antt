@@ -61,6 +61,7 @@ new_range_kept kind text = by (is_free kind)
     by true = tt
     by false = number_kept text
 
+-- a range, if there is one, has at most 127 bits
 abbrev IsKeptRange : Option ℚ → Type 0
 IsKeptRange range = IfSome range IsNarrow
 
@@ -73,6 +74,7 @@ range_kept text = by (same text (codes "NONE"))
     by true = tt
     by false = then_kept IsNarrow IsKeptRange (number_in text) (λ v. Ok (Some v)) (number_kept text) (λ v h. h)
 
+-- a spelled bound that is finite is one that a kept model may have; of an infinite one nothing is asked
 abbrev IsKeptValue : BoundValue ℚ → Type 0
 IsKeptValue (value.Finite v) = IsKeptBound (Some v)
 IsKeptValue other = Unit {0}
@@ -110,6 +112,7 @@ upper_kept text =
 
 -- ---- pairs
 
+-- the number of each pair has at most 127 bits
 abbrev AreKeptPairs : Pairs → Type 0
 AreKeptPairs pairs = All (λ p. IsNarrow p.1) pairs
 

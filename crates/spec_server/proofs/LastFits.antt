@@ -10,6 +10,7 @@ use Rattle.spec_server.specs.Step.{with_answer, AloneStep}
 use Rattle.spec_server.specs.LastFits.{LastFits}
 use Rattle.spec_server.proofs.Simply.{Does, WantsMemory, step_simply}
 
+-- the last answer of a state is one that its model may have, or it has none
 abbrev Fits : State → Type 0
 Fits state = LastFits state.model state.last
 

@@ -51,7 +51,7 @@ Plays-append places a b c (x ∷ xs) ys r q = (r.0, r.1, Plays-append places r.0
 
 -- ---- one session takes a step, and others do not
 
--- the states with this one for a session
+-- the states of the sessions, but with this one for the given session
 abbrev pub updated : (ℕ → State) → ℕ → State → ℕ → State
 updated states session state other = cond (nat_eq session other) state (states other)
 

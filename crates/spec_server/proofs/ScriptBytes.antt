@@ -13,15 +13,16 @@ use Rattle.spec_server.specs.Machine.{ExactAsk}
 use Rattle.spec_server.specs.Script.{Between, Script, Over, asks_from, pending_after, ending_by}
 use Rattle.spec_server.specs.Script.{ended_asks_of, script_of}
 
--- one that may be read, by its asks
+-- a script of these requests, with the ending that the lines of these bytes have
 abbrev pub with_asks : Addressing → List ℕ → List (Asked ExactAsk) → Script
 with_asks addressing bytes asks =
     record { asks = asks; ending = ending_by (pending_after addressing Between (lines_of bytes)) }
 
+-- the requests of all lines of these bytes, and the ending that they have within the limit on bytes
 abbrev pub whole_script : Addressing → List ℕ → Script
 whole_script addressing bytes = with_asks addressing bytes (asks_from addressing Between (lines_of bytes))
 
--- one that is too long
+-- a script past the limit on bytes: the requests of its lines that end within the limit, and the ending `Over`
 abbrev pub long_script : Addressing → List ℕ → Script
 long_script addressing bytes = record { asks = ended_asks_of addressing bytes; ending = Over }
 

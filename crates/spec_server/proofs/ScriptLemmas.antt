@@ -51,17 +51,20 @@ pending_after-append addressing p (l ∷ ls) ms =
 
 -- ---- sessions have the numbers 0 to 64, and edits have numbers that may be kept
 
+-- a text or certificate that has begun is for a session of at most 64; between commands nothing is asked
 abbrev pub IsNumbered : Pending → Type 0
 IsNumbered Between = Unit {0}
 IsNumbered (Text session form body) = session ≤ 64
 IsNumbered (Certificate session body) = session ≤ 64
 
+-- if the command is an edit, its numbers and bounds may be kept; of other commands nothing is asked
 abbrev pub IsKeptCommand : ExactCommand → Type 0
 IsKeptCommand (Load form) = Unit {0}
 IsKeptCommand Check = Unit {0}
 IsKeptCommand (Plain asked) = IsKeptPlain asked
 IsKeptCommand (Bad fault) = Unit {0}
 
+-- if a line has a command, its session is at most 64, and the command's numbers and bounds may be kept
 abbrev pub IsKeptLine : Option (Asked ExactCommand) → Type 0
 IsKeptLine None = Unit {0}
 IsKeptLine (Some addressed) = (addressed.session ≤ 64) × IsKeptCommand addressed.ask

@@ -20,7 +20,7 @@ use Rattle.spec_server.proofs.Simply.{Does, WantsMemory, step_simply}
 
 -- ---- steps
 
--- a session that does what is due holds the model of what is due, and that of a solve, or of a wide one, is the one before
+-- a session that does what is due has a model that may be kept, if the state before and the one that is due have one
 does_keep : (places : ℕ) (old new : State) (what : Due) (replied : ExactReply) → IsKeptState old →
     IsKeptState (due_next places old what) → Does old what replied new → IsKeptState new
 does_keep places old new (Replies stated next) replied h k d = subst IsKeptState (sym d.1) k
@@ -37,6 +37,7 @@ step_keeps places old new asked reads replied s may h = by (step_simply places o
 
 -- ---- runs
 
+-- the state's model may be kept, and its last answer is one that the model may have
 pub record IsGood (state : State) : Type 0 where
   pub kept : IsKeptState state
   pub fits : LastFits state.model state.last

@@ -26,7 +26,7 @@ use Rattle.spec_server.specs.Step.{answered, with_answer, solve_begun, Begun, Be
 use Rattle.spec_server.specs.Step.{how_by, is_found, words_of_end, worked_with, SolvesWith, Works, Concludes, GoesOn}
 use Rattle.spec_server.specs.Step.{AloneStep}
 
--- a solve replies its answer, and the session keeps it
+-- a solve of the model m, which `old` holds, replies an answer that the model may have, and `new` keeps it as the last
 pub record SolveStep (old : State) (m : Model) (replied : ExactReply) (new : State) : Type 0 where
   pub end : ExactSolveEnd
   pub how : How
@@ -36,7 +36,7 @@ pub record SolveStep (old : State) (m : Model) (replied : ExactReply) (new : Sta
   pub answer : replied ≡ answered old end
   pub kept : new ≡ with_answer old end how publication
 
--- an exact solve replies its lines, and the state stays
+-- an exact solve of the model m, which `old` holds, replies the lines of an end that it may have, and the state stays
 pub record WideStep (old : State) (m : Model) (replied : ExactReply) (new : State) : Type 0 where
   pub end : RationalEnd
   pub held : old.model ≡ Some m
@@ -44,13 +44,14 @@ pub record WideStep (old : State) (m : Model) (replied : ExactReply) (new : Stat
   pub answer : replied ≡ reply.Wide (wide_lines m end)
   pub stays : new ≡ old
 
--- what is due is done
+-- what is due in the state `old` is done, with this reply and the state `new`: the reply that is due, or a solve, or an
+-- exact solve
 abbrev pub Does : State → Due → ExactReply → State → Type 0
 Does old (Replies stated next) replied new = (replied ≡ stated) × (new ≡ next)
 Does old (Solves m) replied new = SolveStep old m replied new
 Does old (SolvesWide m) replied new = WideStep old m replied new
 
--- memory runs out, and the state stays
+-- the reply is `MEMORY`, and the state `new` is `old`
 pub record WantsMemory (old : State) (replied : ExactReply) (new : State) : Type 0 where
   pub memory : replied ≡ reply.Memory
   pub stays : new ≡ old
@@ -58,38 +59,47 @@ pub record WantsMemory (old : State) (replied : ExactReply) (new : State) : Type
 -- ---- only the command SOLVE has a solve for its due, and WIDE an exact one, and of the model that is held
 
 module _ (old : State) (m : Model) where
+  -- where a solve of m is due to `SOLVE`, m is the model that is held
   solve_held : (held : Option Model) → solve_due old held ≡ Solves m → held ≡ Some m
   solve_held None e = cc
   solve_held (Some n) e = cc
 
+  -- to `SOLVE` no exact solve is due
   solve_not_wide : (held : Option Model) → solve_due old held ≡ SolvesWide m → ⊥
   solve_not_wide None e = cc
   solve_not_wide (Some n) e = cc
 
+  -- where an exact solve of m is due to `WIDE`, m is the model that is held
   wide_held : (held : Option Model) → wide_due old held ≡ SolvesWide m → held ≡ Some m
   wide_held None e = cc
   wide_held (Some n) e = cc
 
+  -- to `WIDE` no solve within 127 bits is due
   wide_not_solved : (held : Option Model) → wide_due old held ≡ Solves m → ⊥
   wide_not_solved None e = cc
   wide_not_solved (Some n) e = cc
 
+  -- after an edit that was made or refused no solve is due
   edit_held : (r : OrFault Model) → edit_due old r ≡ Solves m → ⊥
   edit_held (Ok n) e = cc
   edit_held (Err why) e = cc
 
+  -- to an edit no solve is due
   change_held : (held : Option Model) (edit : ExactEdit) → change_due old held edit ≡ Solves m → ⊥
   change_held None edit e = cc
   change_held (Some n) edit e = edit_held (edited n edit) e
 
+  -- after an edit that was made or refused no exact solve is due
   edit_not_wide : (r : OrFault Model) → edit_due old r ≡ SolvesWide m → ⊥
   edit_not_wide (Ok n) e = cc
   edit_not_wide (Err why) e = cc
 
+  -- to an edit no exact solve is due
   change_not_wide : (held : Option Model) (edit : ExactEdit) → change_due old held edit ≡ SolvesWide m → ⊥
   change_not_wide None edit e = cc
   change_not_wide (Some n) edit e = edit_not_wide (edited n edit) e
 
+  -- only for `SOLVE` is a solve of a model due, and it is the model that the session holds
   pub due_held : (asked : ExactAsk) → due old asked ≡ Solves m →
       (asked ≡ ask.Plain command.Solve) × (old.model ≡ Some m)
   due_held (ask.Plain (command.Write form)) e = cc
@@ -106,6 +116,7 @@ module _ (old : State) (m : Model) where
   due_held (ask.Unfit line) e = cc
   due_held (ask.Bad fault) e = cc
 
+  -- only for `WIDE` is an exact solve of a model due, and it is the model that the session holds
   pub wide_due_held : (asked : ExactAsk) → due old asked ≡ SolvesWide m →
       (asked ≡ ask.Plain command.Wide) × (old.model ≡ Some m)
   wide_due_held (ask.Plain (command.Write form)) e = cc
@@ -124,13 +135,14 @@ module _ (old : State) (m : Model) where
 
 -- ---- what a solve goes on to
 
--- the reply is its answer, and the state keeps it
+-- the reply is that of a solve that ended so, and the state `new` keeps the end as the last answer
 record KeepsAnswer (old : State) (end : ExactSolveEnd) (how : How) (replied : ExactReply) (new : State) : Type 0 where
   publication : Publication
   answer : replied ≡ answered old end
   kept : new ≡ with_answer old end how publication
 
 module _ (places : ℕ) (old : State) (looked reads : List ExactRead) (replied : ExactReply) (new : State) where
+  -- a solve that ended so replies its answer and keeps it, whether its words are published or not
   worked_keeps : (found : Looked) (end : ExactSolveEnd) (how : How) (words : Option Words) →
       Concludes places old (worked_with old found end how words) looked reads replied new →
       KeepsAnswer old end how replied new
@@ -144,6 +156,7 @@ module _ (places : ℕ) (old : State) (looked reads : List ExactRead) (replied :
       by true c = record { publication = publication.Same; answer = c.1; kept = c.2 }
       by false c = record { publication = publication.Tried c.put; answer = c.answer; kept = c.kept }
 
+  -- a solve of the held model after its look replies an answer that the model may have, and keeps it
   solved_simply : (m : Model) (found : Looked) (worked : Worked) → old.model ≡ Some m → SolvesWith old found worked →
       Concludes places old worked looked reads replied new → SolveStep old m replied new
   solved_simply m found worked held s c =
@@ -160,6 +173,7 @@ module _ (places : ℕ) (old : State) (looked reads : List ExactRead) (replied :
         kept = k.kept;
       }
 
+  -- after its look, a solve of the held model replies and keeps its answer, or replies `MEMORY` and keeps the state
   works_simply : (m : Model) (found : Looked) (worked : Worked) → old.model ≡ Some m → Works old found worked →
       Concludes places old worked looked reads replied new → SolveStep old m replied new ⊎ WantsMemory old replied new
   works_simply m found worked held (inl s) c = inl (solved_simply m found worked held s c)
@@ -168,6 +182,7 @@ module _ (places : ℕ) (old : State) (looked reads : List ExactRead) (replied :
       inr (record { memory = w.1; stays = w.2 })
 
 module _ (places : ℕ) (old : State) (reads : List ExactRead) (replied : ExactReply) (new : State) where
+  -- a solve of the held model, with a form or without, replies and keeps its answer, or replies `MEMORY`
   solve_simply : (m : Model) (r : Result Form (FormFault ℚ)) → form_of (Some number_limit) m ≡ r → old.model ≡ Some m →
       GoesOn places old (solve_begun old m r) reads replied new →
       SolveStep old m replied new ⊎ WantsMemory old replied new
@@ -183,6 +198,7 @@ module _ (places : ℕ) (old : State) (reads : List ExactRead) (replied : ExactR
     kept = g.2;
   })
 
+  -- a step that begins with what is due ends with that, or with `MEMORY` and the same state
   due_simply : (asked : ExactAsk) (what : Due) (begun : Begun) → due old asked ≡ what → BegunBy old what begun →
       GoesOn places old begun reads replied new →
       Does old what replied new ⊎ WantsMemory old replied new
@@ -201,6 +217,7 @@ module _ (places : ℕ) (old : State) (reads : List ExactRead) (replied : ExactR
         stays = w.2;
       })
 
+  -- each step of a session does what is due to the request, or replies `MEMORY` and keeps the state
   pub step_simply : (asked : ExactAsk) → AloneStep places old asked reads replied new →
       Does old (due old asked) replied new ⊎ WantsMemory old replied new
   step_simply asked s = by s.begins

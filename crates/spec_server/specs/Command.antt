@@ -31,26 +31,27 @@ abbrev pub begins_with_zero : List ℕ → Bool
 begins_with_zero [] = false
 begins_with_zero (b ∷ bs) = b == 48
 
--- a number from 1 to the last one, with no leading zero, of at most this many digits
+-- the number from 1 to `last` that a text spells in at most this many digits, without a leading zero;
+-- none for each other text
 abbrev pub number_to : ℕ → ℕ → List ℕ → Option ℕ
 number_to last digits text =
     if nat_lt 0 (length text) && nat_le (length text) digits && list_all is_digit text
     && not (begins_with_zero text) && nat_le (spelled_from 0 text) last
     then Some (spelled_from 0 text) else None
 
--- the number of a session, at most 64, that a text of at most two digits spells
+-- the number of a session, 1 to 64, that a text spells; none for each other text
 unfoldable pub session_of : List ℕ → Option ℕ
 session_of text = number_to 64 2 text
 
--- how many pivots and flips a budget has
+-- the budget of pivots and flips, 1 to 1,000,000, that a text spells; none for each other text
 unfoldable pub budget_of : List ℕ → Option ℕ
 budget_of text = number_to 1000000 7 text
 
--- the style of a model's text that a word names
+-- the form of a model's text that a word names, FREE or FIXED; none for any other word
 unfoldable pub style_of : List ℕ → Option Style
 style_of text = look_up text ((codes "FREE", style.Free) ∷ (codes "FIXED", style.Fixed) ∷ [])
 
--- the command word that these bytes spell
+-- the command word that these bytes spell; none where they spell no such word
 unfoldable pub command_word_of : List ℕ → Option CommandWord
 command_word_of text =
     look_up text
@@ -77,27 +78,27 @@ command_word_of text =
 
 -- ---- commands
 
--- `LOAD`, by the style of the text that follows
+-- the command `LOAD` of a text in this form; a bad command where the word for the form is unknown
 abbrev pub load_by : Option Style → ExactCommand
 load_by None = Bad fault.Word
 load_by (Some form) = Load form
 
--- `WRITE`, by the style of the text that is asked for
+-- the command `WRITE` of the model in this form; a bad command where the word for the form is unknown
 abbrev pub write_by : Option Style → ExactCommand
 write_by None = Bad fault.Word
 write_by (Some form) = Plain (plain_command.Write form)
 
--- `BUDGET`, by the number that was read
+-- the command `BUDGET` of this number; a bad command where none was spelled
 abbrev pub budget_by : Option ℕ → ExactCommand
 budget_by None = Bad fault.Number
 budget_by (Some n) = Plain (plain_command.Budget n)
 
--- an edit, or the fault of its line
+-- the command of an edit; a bad command with the fault where the line is no edit
 abbrev pub change_by : Reads ExactEdit → ExactCommand
 change_by (Ok e) = Plain (plain_command.Change e)
 change_by (Err why) = Bad why
 
--- by the command word and the words after it
+-- the command of a command word and the words behind it; a bad command where their number or one of them is wrong
 abbrev pub command_with : CommandWord → List (List ℕ) → ExactCommand
 command_with word.Load (form ∷ []) = load_by (style_of form)
 command_with word.Write (form ∷ []) = write_by (style_of form)
@@ -111,12 +112,13 @@ command_with word.Quit [] = Plain plain_command.Quit
 command_with (word.Edit which) behind = change_by (edit_by which behind)
 command_with other behind = Bad fault.Word
 
--- a command by its first word, and the words behind it
+-- the command of a line, by its command word and the words behind it;
+-- a bad command where the first word is no such word
 abbrev pub command_at : Option CommandWord → List (List ℕ) → ExactCommand
 command_at None behind = Bad fault.Word
 command_at (Some which) behind = command_with which behind
 
--- the command of a line's words
+-- the command that a line's words spell, or the fault why they spell none
 abbrev pub command_of : List (List ℕ) → ExactCommand
 command_of [] = Bad fault.Word
 command_of (first ∷ behind) = command_at (command_word_of first) behind

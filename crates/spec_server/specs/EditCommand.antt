@@ -22,7 +22,7 @@ use Rattle.spec_server.specs.declared.command.EditWord.TheVariants.{SetRhs, SetR
 use Rattle.spec_server.specs.declared.command.LineFault.{LineFault}
 use Rattle.spec_server.specs.declared.command.LineFault.TheVariants as fault
 
--- what a line's words are, or why they are nothing
+-- what words of a line are read as, or the fault of the line
 abbrev pub Reads : Type 0 → Type 0
 Reads A = Result A LineFault
 
@@ -34,38 +34,39 @@ abbrev pub ◌>>=◌ : {A B : Type 0} → Reads A → (A → Reads B) → Reads 
 
 -- ---- one word
 
--- the fault of an edit's line in which the text of a number has the given fault
+-- the fault of a line in which the text of a number has this fault: no number, or one past 127 bits
 abbrev pub number_fault : NumFault → LineFault
 number_fault number.Shape = fault.Number
 number_fault number.Wide = fault.Wide
 
--- a number that was read, or its fault as one of the line
+-- a result of reading a number as one of reading a line: its value, or its fault as the line's
 abbrev pub as_read : {A : Type 0} → Result A NumFault → Reads A
 as_read (Ok x) = Ok x
 as_read (Err why) = Err (number_fault why)
 
--- the number that a word spells
+-- the number that a word spells, or the line's fault
 unfoldable pub number_in : List ℕ → Reads ℚ
 number_in text = as_read (answer (number_of text))
 
--- a word of a fixed list, or the fault `Word`
+-- what a word of a fixed list means, if it is one of them; else the fault `Word`
 abbrev pub keyword : {A : Type 0} → Option A → Reads A
 keyword None = Err fault.Word
 keyword (Some x) = Ok x
 
--- the kind of a row that a word spells
+-- the kind of a row that a word spells, or the fault `Word`
 unfoldable pub kind_in : List ℕ → Reads Kind
 kind_in text = keyword (look_up text ((codes "L", L) ∷ (codes "G", G) ∷ (codes "E", E) ∷ (codes "N", N) ∷ []))
 
--- the sense of the objective that a word spells
+-- the sense of the objective that a word spells, or the fault `Word`
 unfoldable pub sense_in : List ℕ → Reads Sense
 sense_in text = keyword (look_up text ((codes "MIN", Min) ∷ (codes "MAX", Max) ∷ []))
 
--- the range of a row that a word spells, where `NONE` is none
+-- the range of a row that a word spells: none for the word `NONE`, else its number; or the line's fault
 unfoldable pub range_in : List ℕ → Reads (Option ℚ)
 range_in text = if same text (codes "NONE") then Ok None else (number_in text >>= λ v. Ok (Some v))
 
--- the range of a new row, which a free one has none of
+-- the range of a new row of this kind that a word spells, or the line's fault;
+-- for a free row each word is the fault `Word`
 unfoldable pub new_range_in : Kind → List ℕ → Reads ℚ
 new_range_in kind text = if is_free kind then Err fault.Word else number_in text
 
@@ -75,23 +76,23 @@ lower_by (Finite v) = Ok (Some v)
 lower_by MinusInf = Ok None
 lower_by PlusInf = Err fault.Number
 
--- what a spelled value is as an upper bound
+-- A spelled value as an upper bound: a finite value is the bound, plus infinity is none, and minus infinity is refused.
 abbrev pub upper_by : BoundValue ℚ → Reads (Option ℚ)
 upper_by (Finite v) = Ok (Some v)
 upper_by PlusInf = Ok None
 upper_by MinusInf = Err fault.Number
 
--- the lower bound that a word spells
+-- the lower bound that a word spells, or none for minus infinity; or the line's fault
 unfoldable pub lower_in : List ℕ → Reads (Option ℚ)
 lower_in text = as_read (bound_answer (bound_of text)) >>= lower_by
 
--- the upper bound that a word spells
+-- the upper bound that a word spells, or none for plus infinity; or the line's fault
 unfoldable pub upper_in : List ℕ → Reads (Option ℚ)
 upper_in text = as_read (bound_answer (bound_of text)) >>= upper_by
 
 -- ---- pairs
 
--- words two by two, if none is left over
+-- the words in pairs, in order; none where one is left over
 unfoldable pub two_by_two : List (List ℕ) → Option (List (List ℕ × List ℕ))
 two_by_two [] = Some []
 two_by_two (name ∷ []) = None
@@ -102,14 +103,16 @@ unfoldable pub numbers_in : List (List ℕ × List ℕ) → Reads Pairs
 numbers_in [] = Ok []
 numbers_in (p ∷ pairs) = number_in p.1 >>= λ v. numbers_in pairs >>= λ rest. Ok ((p.0, v) ∷ rest)
 
--- a new column, whose words are counted before its numbers are read
+-- the edit that adds a column of this name, with the cost and the pairs that these words spell; or the line's fault. A
+-- word left over from the pairs is found before any number is read.
 abbrev pub column_in : Name → List ℕ → Option (List (List ℕ × List ℕ)) → Reads ExactEdit
 column_in name cost None = Err fault.Word
 column_in name cost (Some pairs) = number_in cost >>= λ c. numbers_in pairs >>= λ ps. Ok (edit.AddCol name c ps)
 
 -- ---- edits: the count of words, and then the words from left to right
 
--- the edit that its command word and the words behind it spell
+-- the edit that a command word and the words behind it spell, or the line's fault: first their number must be right,
+-- then each from left to right
 unfoldable pub edit_by : EditWord → List (List ℕ) → Reads ExactEdit
 edit_by AddRow (name ∷ kind ∷ rhs ∷ []) = kind_in kind >>= λ k. number_in rhs >>= λ b. Ok (edit.AddRow name k b None)
 edit_by AddRow (name ∷ kind ∷ rhs ∷ range ∷ []) =

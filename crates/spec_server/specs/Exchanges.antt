@@ -18,7 +18,8 @@ pub record Exchange : Type 0 where
 abbrev pub asked_in : Exchange → Asked ExactAsk
 asked_in x = record { session = x.session; ask = x.ask }
 
--- from old, step by step, to new, where sessions share so many places
+-- the exchanges are steps of the one-session machine, one after the other, from the state `old` to `new`, where
+-- sessions share so many places
 abbrev pub AloneRun : ℕ → State → List Exchange → State → Type 0
 AloneRun places old [] new = new ≡ old
 AloneRun places old (x ∷ xs) new =
@@ -32,7 +33,7 @@ of_session session xs = filter (λ x. x.session == session) xs
 abbrev pub RunAlone : ℕ → List Exchange → Type 0
 RunAlone places xs = (session : ℕ) → (last : State) × AloneRun places opening (of_session session xs) last
 
--- the reads of the exchanges, one exchange after the other
+-- the reads of the exchanges, one exchange after the other, each read with its session
 abbrev pub log_of : List Exchange → List Logged
 log_of xs = flat_map (λ x. logged x.session x.reads) xs
 

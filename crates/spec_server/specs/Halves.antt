@@ -10,7 +10,8 @@ use Rattle.spec_server.specs.declared.halves.Started.TheVariants as started
 use Rattle.spec_server.specs.Machine.{ExactAsk, ExactReply, State}
 use Rattle.spec_server.specs.Step.{Answers, Looks, Begins, Pending, Ends, Publishes, Works, answered, after_put}
 
--- what a session is to be told next
+-- what a session waits for to go on with its request: nothing where it has none, what a look found, or what became of
+-- words that it publishes
 pub data Awaits : Type 0 where
   Nothing : Awaits
   -- what a look for this shape found
@@ -29,7 +30,8 @@ at_rest state = record { state = state; awaits = Nothing }
 
 -- ---- an ask begins
 
--- a session begins a request: it replies at once, or waits for what a look-up of a shape on the board finds
+-- A session in the state `old` begins a request: it replies at once and awaits nothing, or it keeps its state and
+-- waits for what a look-up of a shape on the board finds. `new` is how it stands then.
 abbrev pub StartFits : State → ExactAsk → Started ExactReply → Standing → Type 0
 StartFits old asked (started.Reply replied) new = Begins old asked (Answers replied new.state) × (new.awaits ≡ Nothing)
 StartFits old asked (started.Look shape) new =
@@ -37,14 +39,16 @@ StartFits old asked (started.Look shape) new =
 
 -- ---- a solve goes on with what was found
 
--- what was found may be told: well-formed words of the shape that is looked for
+-- The session waits for what a look finds, and may be told this: nothing, or a place with well-formed words of the
+-- shape that it looks for.
 abbrev pub MayBeFound : Awaits → Looked → Type 0
 MayBeFound Nothing found = ⊥
 MayBeFound (WhatIsFound shape) found =
     IfSome found (λ place. IsWellFormed place.words × (front place.words ≡ shape))
 MayBeFound (WhatBecameOf pending) found = ⊥
 
--- well-formed words are to be published
+-- The solve goes on, with what was found, to publish these words, which are well-formed. The session keeps its state,
+-- and waits for what becomes of them.
 pub record AwaitsPut (old : State) (found : Looked) (words : Words) (new : Standing) : Type 0 where
   pub pending : Pending
   pub works : Works old found (Publishes pending)
@@ -52,20 +56,22 @@ pub record AwaitsPut (old : State) (found : Looked) (words : Words) (new : Stand
   pub formed : IsWellFormed words
   pub awaited : new ≡ record { state = old; awaits = WhatBecameOf pending }
 
--- what a session does after a look-up: it replies, or waits for how publishing words ends
+-- what a session in the state `old` may do after a look-up that found this, and how it stands then: it replies and
+-- waits for nothing, or publishes words and waits for what becomes of them
 abbrev pub NextFits : State → Looked → Next ExactReply → Standing → Type 0
 NextFits old found (next.Reply replied) new = Works old found (Ends replied new.state) × (new.awaits ≡ Nothing)
 NextFits old found (next.Publish words) new = AwaitsPut old found words new
 
 -- ---- words were published, or not
 
--- the session waits for how publishing words ends
+-- the session waits for what becomes of words that it publishes
 abbrev pub IsPutAwaited : Awaits → Type 0
 IsPutAwaited Nothing = ⊥
 IsPutAwaited (WhatIsFound shape) = ⊥
 IsPutAwaited (WhatBecameOf pending) = Unit {0}
 
--- after words were published, or could not be, the session gives the reply that was pending, and waits for nothing
+-- The session waited for what becomes of its words, and was told. It gives the reply of its solve, keeps the answer
+-- with what became of them, and waits for nothing.
 abbrev pub PutFits : State → Awaits → Put → ExactReply → Standing → Type 0
 PutFits old Nothing put replied new = ⊥
 PutFits old (WhatIsFound shape) put replied new = ⊥

@@ -12,7 +12,8 @@ use Rattle.spec_certificate.specs.TextWritten.{certificate_lines}
 use Rattle.spec_server.specs.declared.asks.Reply.TheVariants as reply
 use Rattle.spec_server.specs.Machine.{check_reply}
 
--- the lines, with more lines after them, spell a certificate to which a session with this model says yes
+-- The lines of this certificate, whatever lines follow, spell a certificate; and a session that holds the model, with
+-- memory enough, answers it with yes and what is known.
 pub record IsAcceptedBack (m : Model) (known : Known ℚ) (cert : Certificate (List ℚ)) : Type 0 where
   pub raw : ExactRaw
   pub spelled : (more : List (Line (List ℕ))) → Spells (map Text (certificate_lines m cert) ++ more) raw

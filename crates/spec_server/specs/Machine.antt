@@ -31,7 +31,7 @@ use Rattle.spec_server.specs.declared.asks.Refusal.TheVariants as refusal
 use Rattle.spec_server.specs.declared.command.Plain.{Plain}
 use Rattle.spec_server.specs.declared.command.Plain.TheVariants as command
 
--- a request, a reply and a last answer of exact numbers
+-- a request with models, certificates and edits of exact numbers
 abbrev pub ExactAsk : Type 0
 ExactAsk = Ask Model ExactRaw ExactEdit
 
@@ -43,18 +43,19 @@ ExactReply = Reply Name ℚ (List ℕ) (List (List ℕ))
 abbrev pub ExactLastAnswer : Type 0
 ExactLastAnswer = LastAnswer ℚ (List ℚ) (List Status)
 
--- a model that is to be held is one that may be kept, and an edit has numbers that may be
+-- if the command is an edit, its numbers and bounds may be kept; of other commands nothing is asked
 abbrev pub IsKeptPlain : Plain ExactEdit → Type 0
 IsKeptPlain (command.Change e) = edits.IsKeptEdit e
 IsKeptPlain asked = Unit {0}
 
--- a model that a request loads is usual, and the numbers of an edit may be kept
+-- if the request loads a model, this is a usual one; if it edits, the edit's numbers and bounds may be kept; of others
+-- nothing is asked
 abbrev pub IsKeptAsk : ExactAsk → Type 0
 IsKeptAsk (ask.Loaded m) = IsUsualModel m
 IsKeptAsk (ask.Plain asked) = IsKeptPlain asked
 IsKeptAsk asked = Unit {0}
 
--- all requests hold models and numbers that may be kept
+-- each request that loads a model loads a usual one, and each edit has numbers and bounds that may be kept
 abbrev pub AreKept : List (Asked ExactAsk) → Type 0
 AreKept asks = All (λ a. IsKeptAsk a.ask) asks
 
@@ -64,11 +65,11 @@ pub record State : Type 0 where
   pub budget : ℕ
   pub last : Option ExactLastAnswer
 
--- the budget of pivots with which a session begins
+-- the budget with which a session begins: 10,000 pivots and flips
 abbrev pub opening_budget : ℕ
 opening_budget = 10000
 
--- a session that was asked nothing yet
+-- the state of a session that was asked nothing yet: no model, no answer, and the opening budget
 abbrev pub opening : State
 opening = record { model = None; budget = opening_budget; last = None }
 
@@ -79,22 +80,24 @@ abbrev pub is_memory : ExactReply → Bool
 is_memory reply.Memory = true
 is_memory replied = false
 
--- the name that does not fit
+-- the refusal of a certificate with a name that the model does not have, or that stands twice
 abbrev pub settle_reply : SettleFault Name → ExactReply
 settle_reply (settle.UnknownName name) = reply.Refused (refusal.Name name)
 settle_reply (settle.Repeated name) = reply.Refused (refusal.Repeated name)
 
--- the verdict on a certificate, or its name that does not fit the model
+-- the reply to a certificate whose names were looked up in the model: the checker's verdict;
+-- or a refusal where a name is unknown or stands twice
 abbrev pub verdict_on : Model → Settled (Certificate (List ℚ)) → ExactReply
 verdict_on m (Ok certificate) = reply.Checked (verdict_of (check_run (Some number_limit) m certificate))
 verdict_on m (Err fault) = settle_reply fault
 
--- the reply to a certificate, by the model that is held
+-- the reply to a certificate: the checker's verdict, by the model that is held, or a refusal where a name is unknown or
+-- stands twice, or no model is held
 abbrev pub check_reply : Option Model → ExactRaw → ExactReply
 check_reply None raw = reply.Refused refusal.NoModel
 check_reply (Some m) raw = verdict_on m (certificate_for m raw)
 
--- the reply to WRITE FIXED: the text of the model, or a refusal that names an item too wide for fixed form
+-- the reply to `WRITE FIXED`: the text of the model; where an item is too wide for fixed form, a refusal that names it
 abbrev pub fixed_reply : Model → Option (List ℕ) → ExactReply
 fixed_reply m None = reply.Written (fixed m)
 fixed_reply m (Some item) = reply.Refused (refusal.FixedWide item)
@@ -104,42 +107,46 @@ abbrev pub text_reply : Model → Style → ExactReply
 text_reply m style.Free = reply.Written (free m)
 text_reply m style.Fixed = fixed_reply m (too_wide m)
 
--- the reply to `WRITE`: the model's text in the given form, or that there is no model
+-- the reply to `WRITE`: the model's text in the given form; or a refusal, where there is no model or an item is too
+-- wide for fixed form
 abbrev pub write_reply : Option Model → Style → ExactReply
 write_reply None form = reply.Refused refusal.NoModel
 write_reply (Some m) form = text_reply m form
 
--- the reply to a solve within a budget
+-- the reply to a solve within a budget that ended so: what is known, the operation past the limit, or the spent budget
 abbrev pub answer_of : ℕ → ExactSolveEnd → ExactReply
 answer_of budget (outcome.Ended known certificate basis pivots) = reply.Known known
 answer_of budget (outcome.Past p) = reply.Past p
 answer_of budget outcome.Spent = reply.Spent budget
 
--- the lines of its certificate; none where it knows nothing of the model
+-- the lines of the certificate of a solve that ended so; none where it ended without an answer
 abbrev pub lines_of_solved : Model → ExactSolveEnd → List (List ℕ)
 lines_of_solved m (outcome.Ended known certificate basis pivots) = certificate_lines m certificate
 lines_of_solved m (outcome.Past p) = []
 lines_of_solved m outcome.Spent = []
 
--- how many pivots a solve took that ended with an answer
+-- how many pivots and flips a solve took that ended so; none where it ended without an answer
 abbrev pub pivots_of_solved : ExactSolveEnd → Option ℕ
 pivots_of_solved (outcome.Ended known certificate basis pivots) = Some pivots
 pivots_of_solved (outcome.Past p) = None
 pivots_of_solved outcome.Spent = None
 
--- the reply to `CERT`: the certificate of the last answer
+-- the reply to `CERT`: the lines of the last answer's certificate, no lines where that solve ended without an answer;
+-- a refusal where there is no model or no last answer
 abbrev pub cert_reply : Option Model → Option ExactLastAnswer → ExactReply
 cert_reply (Some m) (Some last) = reply.Certified (lines_of_solved m last.solved)
 cert_reply model last = reply.Refused refusal.NoAnswer
 
--- the reply to `HOW`: from which basis the last answer was found, and in how many pivots
+-- the reply to `HOW`: how the last answer was found, in how many pivots and flips (none where the solve ended without
+-- an answer), and what became of its basis; a refusal where there is no last answer
 abbrev pub how_reply : Option ExactLastAnswer → ExactReply
 how_reply None = reply.Refused refusal.NoAnswer
 how_reply (Some last) = reply.Found last.how (pivots_of_solved last.solved) last.publication
 
 -- ---- what is due to an ask
 
--- with memory enough: this reply, and this state from then on; a solve of this model; or a wide one, which changes nothing
+-- what a session does for a request, if memory is enough: it replies and is in the next state, or solves this model
+-- within its budget, or solves this model exactly
 pub data Due : Type 0 where
   Replies : (replied : ExactReply) → (next : State) → Due
   Solves : (model : Model) → Due
@@ -155,7 +162,7 @@ abbrev pub wide_due : State → Option Model → Due
 wide_due state None = Replies (reply.Refused refusal.NoModel) state
 wide_due state (Some m) = SolvesWide m
 
--- why an edit is refused
+-- the reply that refuses an edit, by its fault
 abbrev pub edit_refusal : EditFault Name → ExactReply
 edit_refusal (edit.UnknownName name) = reply.Refused (refusal.Name name)
 edit_refusal (edit.Taken name) = reply.Refused (refusal.Taken name)
@@ -164,17 +171,20 @@ edit_refusal edit.BadName = reply.Refused refusal.BadName
 edit_refusal (edit.Repeated name) = reply.Refused (refusal.Repeated name)
 edit_refusal (edit.FreeRow name) = reply.Refused (refusal.FreeRow name)
 
--- an edit that is done forgets the last answer, and a refused one forgets nothing
+-- what a session does after an edit: with the edited model it replies that it is done and forgets the last answer; a
+-- fault it replies, and keeps its state
 abbrev pub edit_due : State → OrFault Model → Due
 edit_due state (Ok m) = Replies reply.Done (record state { model = Some m; last = None })
 edit_due state (Err why) = Replies (edit_refusal why) state
 
--- what a session does for an edit: it edits its model, or replies that there is none
+-- what a session does for an edit: it edits its model, or replies why this edit is refused; without a model it replies
+-- that there is none
 abbrev pub change_due : State → Option Model → ExactEdit → Due
 change_due state None e = Replies (reply.Refused refusal.NoModel) state
 change_due state (Some m) e = edit_due state (edited m e)
 
--- what a session does for a command of one line
+-- What a session does for a command of one line. `WRITE`, `CERT` and `HOW` are replied to, and change nothing. `BUDGET`
+-- sets the budget, and `QUIT` leads back to the opening state. A solve or an edit is refused without a model.
 abbrev pub plain_due : State → Plain ExactEdit → Due
 plain_due state (command.Write form) = Replies (write_reply state.model form) state
 plain_due state command.Solve = solve_due state state.model
@@ -185,7 +195,8 @@ plain_due state command.Wide = wide_due state state.model
 plain_due state command.Quit = Replies reply.Bye opening
 plain_due state (command.Change e) = change_due state state.model e
 
--- what a session in this state does for a request: it replies and is in the next state, or it solves a model
+-- What a session in this state does for a request. A command of one line is done or refused. A loaded model is held
+-- from now on, and the last answer forgotten. A certificate is checked, or refused. Each faulty request is refused.
 abbrev pub due : State → ExactAsk → Due
 due state (ask.Plain asked) = plain_due state asked
 due state (ask.Loaded m) =
@@ -197,8 +208,7 @@ due state (ask.Bad fault) = Replies (reply.Refused (refusal.Bad fault)) state
 
 -- ---- memory
 
--- whether memory may run out for the reply: where lines are made, a row, a column or an entry comes, or a model is
--- solved
+-- whether memory may run out for a command: for `WRITE`, `SOLVE`, `WIDE`, `CERT`, and for edits that may add something
 abbrev pub plain_takes_memory : Plain ExactEdit → Bool
 plain_takes_memory (command.Write form) = true
 plain_takes_memory command.Solve = true
@@ -207,7 +217,7 @@ plain_takes_memory command.Cert = true
 plain_takes_memory (command.Change e) = edits.takes_memory e
 plain_takes_memory asked = false
 
--- whether a request may be answered with `MEMORY`
+-- whether a request may be answered with `MEMORY`: a command for which memory may run out, or a certificate
 abbrev pub takes_memory : ExactAsk → Bool
 takes_memory (ask.Plain asked) = plain_takes_memory asked
 takes_memory (ask.Checked raw) = true

@@ -33,11 +33,11 @@ use Rattle.spec_server.specs.declared.asks.Refusal.{Refusal}
 use Rattle.spec_server.specs.declared.asks.Refusal.TheVariants as refusal
 use Rattle.spec_server.specs.Machine.{ExactReply}
 
--- fractions in replies are written as the numbers of texts
+-- the text of a fraction in a reply, the same as in a model's text
 abbrev pub fraction_text : ℚ → List ℕ
 fraction_text q = number_text q
 
--- the word of an operation that was refused
+-- the word for an operation that was refused
 abbrev pub op_text : Op → List ℕ
 op_text Add = codes "ADD"
 op_text Sub = codes "SUB"
@@ -45,30 +45,32 @@ op_text Mul = codes "MUL"
 op_text Div = codes "DIV"
 op_text Cmp = codes "CMP"
 
--- the operation that is past the limit, with its operands
+-- the text of an operation past the limit: `PAST`, the operation's word and its two operands
 abbrev pub past_text : Past ℚ → List ℕ
 past_text p = codes "PAST " ++ op_text p.op ++ codes " " ++ fraction_text p.a ++ codes " " ++ fraction_text p.b
 
--- an answer as it is printed
+-- the text of an answer: `OPTIMAL` and the value, `INFEASIBLE` or `UNBOUNDED`
 abbrev pub known_text : Known ℚ → List ℕ
 known_text (known.Optimal v) = codes "OPTIMAL " ++ fraction_text v
 known_text known.Infeasible = codes "INFEASIBLE"
 known_text known.Unbounded = codes "UNBOUNDED"
 
--- a checker's verdict as it is printed
+-- the text of a checker's verdict: `YES` and what is known, `NO` and the number of the reason,
+-- or an operation past the limit
 abbrev pub verdict_text : Verdict ℚ → List ℕ
 verdict_text (verdict.Yes what) = codes "YES " ++ known_text what
 verdict_text (verdict.No n) = codes "NO " ++ decimal n
 verdict_text (verdict.Past p) = past_text p
 
--- how an answer was found, its pivots and flips, and what was given of it to other sessions
+-- the word for why a warm start stopped
 abbrev pub fall_text : Fall → List ℕ
 fall_text fall.Singular = codes "SINGULAR"
 fall_text fall.Unfit = codes "UNFIT"
 fall_text fall.Past = codes "PAST"
 fall_text fall.Spent = codes "SPENT"
 
--- how the last answer was found, as it is printed
+-- the text of how an answer was found: cold; from the basis at a place; or cold,
+-- because the start from that basis stopped
 abbrev pub how_text : How → List ℕ
 how_text Cold = codes "COLD"
 how_text (Basis k) = codes "BASIS " ++ decimal k
@@ -85,13 +87,14 @@ put_text (put.Published k) = codes "PUBLISHED " ++ decimal k
 put_text (put.Raced c) = codes "RACED " ++ decimal c
 put_text (put.Full c) = codes "FULL " ++ decimal c
 
--- what became of the basis of the last answer, as it is printed
+-- the text of what became of the basis of the last answer: none to publish, the same as the one found,
+-- or how publishing ended
 abbrev pub publication_text : Publication → List ℕ
 publication_text Nothing = codes "NONE"
 publication_text Same = codes "SAME"
 publication_text (Tried put) = put_text put
 
--- why a line is no command
+-- the number and the word for why a line is no command
 abbrev pub line_fault_text : LineFault → List ℕ
 line_fault_text fault.Word = codes "1 WORD"
 line_fault_text fault.Number = codes "2 NUMBER"
@@ -106,16 +109,16 @@ fault_text fault = codes "MPS " ++ decimal fault.line ++ codes " M" ++ decimal (
 unfoldable pub item_text : List ℕ → List ℕ
 item_text item = codes "FIXEDWIDE " ++ item
 
--- a name that stands twice
+-- the text of a refusal for a name that stands twice: `REPEATED` and the name
 unfoldable pub repeated_text : List ℕ → List ℕ
 repeated_text name = codes "REPEATED " ++ name
 
--- rows or columns, as a refusal says it
+-- the word for what there are too many of: `ROWS` or `COLUMNS`
 abbrev pub which_text : Which → List ℕ
 which_text Rows = codes "ROWS"
 which_text Columns = codes "COLUMNS"
 
--- a refusal behind the word `ERR`: its number and what is at fault
+-- the text of a refusal behind the word `ERR`: its number, its word and what is at fault
 abbrev pub refusal_text : Refusal Name (List ℕ) → List ℕ
 refusal_text (refusal.Bad why) = line_fault_text why
 refusal_text refusal.NoModel = codes "4 NOMODEL"
@@ -130,11 +133,11 @@ refusal_text (refusal.Unfit line) = codes "14 CERT " ++ decimal line
 refusal_text (refusal.FixedWide item) = codes "10 " ++ item_text item
 refusal_text (refusal.FreeRow name) = codes "16 FREEROW " ++ name
 
--- each line ends in a line feed
+-- how many line feeds a text has, one at the end of each line
 unfoldable pub count_of_lines : List ℕ → ℕ
 count_of_lines text = length (filter (λ b. b == 10) text)
 
--- a reply as its one line, or its lines, are printed
+-- the first line of a reply, without the session's number and the line feed
 unfoldable pub reply_text : ExactReply → List ℕ
 reply_text (reply.Loaded rows columns) = codes "LOADED " ++ decimal rows ++ codes " " ++ decimal columns
 reply_text (reply.Written text) = codes "TEXT " ++ decimal (count_of_lines text)
@@ -151,7 +154,7 @@ reply_text reply.Bye = codes "BYE"
 reply_text reply.Memory = codes "MEMORY"
 reply_text (reply.Refused why) = codes "ERR " ++ refusal_text why
 
--- the line of a reply that no lines follow, as the commands that read a text write it
+-- the line of a reply with its line feed, as commands that read a text write it
 unfoldable pub check_line : ExactReply → List ℕ
 check_line replied = reply_text replied ++ 10 ∷ []
 
@@ -159,7 +162,8 @@ check_line replied = reply_text replied ++ 10 ∷ []
 unfoldable pub ended_lines : List (List ℕ) → List ℕ
 ended_lines lines = flat_map (λ line. line ++ 10 ∷ []) lines
 
--- the lines of the text of a model, of a certificate, and of an exact solve, follow the reply
+-- the text behind a reply's first line: that of a model,
+-- or the lines of a certificate or of an exact solve; else nothing
 abbrev pub lines_behind : ExactReply → List ℕ
 lines_behind (reply.Loaded rows columns) = []
 lines_behind (reply.Written text) = text
@@ -175,11 +179,12 @@ lines_behind reply.Bye = []
 lines_behind reply.Memory = []
 lines_behind (reply.Refused why) = []
 
--- the number of the session stands in front of a reply, where lines name sessions
+-- what stands in front of a reply: the number of the session and a blank, where lines name sessions; else nothing
 abbrev pub front_of : Addressing → ℕ → List ℕ
 front_of Numbered session = decimal session ++ codes " "
 front_of Alone session = []
 
--- a reply's lines in the output
+-- the bytes that are written of a reply: its first line, with the session's number if lines name sessions, and what
+-- stands behind it
 unfoldable pub reply_lines : Addressing → ℕ → ExactReply → List ℕ
 reply_lines addressing session replied = front_of addressing session ++ reply_text replied ++ 10 ∷ lines_behind replied

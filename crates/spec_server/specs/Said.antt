@@ -8,7 +8,7 @@ pub data Step (S R : Type 0) : Type 0 where
   On : (stage : S) → Step S R
   Says : (said : R) → Step S R
 
--- goes on with the further stage that a line led to; a result that it led to stays
+-- the result after a line: what `next` gives from the further stage, or the result that the line led to
 abbrev pub follow : {S R : Type 0} → Step S R → (S → Option R) → Option R
 follow (On stage) next = next stage
 follow (Says said) next = Some said

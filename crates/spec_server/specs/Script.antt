@@ -22,31 +22,31 @@ use Rattle.spec_server.specs.Machine.{ExactAsk}
 
 -- ---- bodies
 
--- whether this is the first of some words
+-- whether a list of words begins with this word
 abbrev pub begins_with_word : List ℕ → List (List ℕ) → Bool
 begins_with_word word [] = false
 begins_with_word word (w ∷ ws) = same w word
 
--- the last line of a text begins in column 1 with the word ENDATA
+-- whether a line is the last one of a model's text: it begins in column 1 with the word ENDATA
 unfoldable pub ends_text : Line (List ℕ) → Bool
 ends_text (line.Text bytes) = not (begins_with_blank bytes) && begins_with_word (codes "ENDATA") (words_of bytes)
 ends_text (line.Long len) = false
 ends_text line.End = false
 ends_text line.Over = false
 
--- the last line of a certificate has the word END alone
+-- whether a line is the last one of a certificate: the word END alone
 unfoldable pub ends_certificate : Line (List ℕ) → Bool
 ends_certificate (line.Text bytes) = is_end (words_of bytes)
 ends_certificate (line.Long len) = false
 ends_certificate line.End = false
 ends_certificate line.Over = false
 
--- the request of a text that was read: its model, or its fault
+-- the request of a model's text that was read: to load its model, or to refuse it with its fault
 abbrev pub ask_of_verdict : Verdict → ExactAsk
 ask_of_verdict (Spelled m) = ask.Loaded m
 ask_of_verdict (Refused n fault) = ask.Misspelled (record { line = n; code = fault })
 
--- the request of a certificate that was read: its numbers, or its fault
+-- the request of a certificate that was read: to check it, or to refuse it at its first wrong line
 abbrev pub ask_of_judgement : certificate.Judgement → ExactAsk
 ask_of_judgement (certificate.Spelled raw) = ask.Checked raw
 ask_of_judgement (certificate.Refused n) = ask.Unfit n
@@ -80,19 +80,21 @@ pending_after_line addressing (Text session form body) next =
 pending_after_line addressing (Certificate session body) next =
     if ends_certificate next then Between else Certificate session (body ++ next ∷ [])
 
--- the request of a command in one line; none for a command whose text or certificate follows
+-- the list of the request that a command alone makes; empty for a command behind which a text or a certificate follows
 abbrev pub asks_of_command : ℕ → ExactCommand → List (Asked ExactAsk)
 asks_of_command session (Load form) = []
 asks_of_command session Check = []
 asks_of_command session (Plain asked) = record { session = session; ask = ask.Plain asked } ∷ []
 asks_of_command session (Bad fault) = record { session = session; ask = ask.Bad fault } ∷ []
 
--- the request of a line by its command, where it has one
+-- the list of the request that a line's command makes; empty where the line has no command,
+-- or one with a text or a certificate behind it
 abbrev pub asks_by : Option (Asked ExactCommand) → List (Asked ExactAsk)
 asks_by None = []
 asks_by (Some addressed) = asks_of_command addressed.session addressed.ask
 
--- the request that a line completes, if it completes one
+-- the list of the request that a line completes: its own command, or the text or certificate that it ends;
+-- empty if none
 abbrev pub asks_of_line : Addressing → Pending → Line (List ℕ) → List (Asked ExactAsk)
 asks_of_line addressing Between next = asks_by (addressed_in addressing next)
 asks_of_line addressing (Text session form body) next =
@@ -124,7 +126,7 @@ pub data Ending : Type 0 where
   Cut : Ending
   Over : Ending
 
--- how a script ends, by whether a text or certificate has begun and not ended with its last line
+-- how a script ends: cut off, if a text or certificate has begun and not ended; else between two commands
 abbrev pub ending_by : Pending → Ending
 ending_by Between = Ended
 ending_by (Text session form body) = Cut
@@ -139,7 +141,7 @@ pub record Script : Type 0 where
 unfoldable pub ended_asks_of : Addressing → List ℕ → List (Asked ExactAsk)
 ended_asks_of addressing bytes = asks_from addressing Between (ended_lines_of (take input_limit bytes))
 
--- the requests of a script's bytes, and how the script ends
+-- the requests of a script's bytes, and how it ends. Past the limit on bytes, only lines that end within it count
 unfoldable pub script_of : Addressing → List ℕ → Script
 script_of addressing bytes =
     if nat_le (length bytes) input_limit

@@ -5,6 +5,6 @@ use Rattle.spec_server.specs.declared.addressing.Addressing.TheVariants.{Numbere
 use Rattle.spec_server.specs.Output.{reply_lines}
 use Rattle.spec_server.specs.Exchanges.{Exchange}
 
--- the output of a script
+-- the output of a script's exchanges: the lines of each reply, behind the number of its session
 abbrev pub script_out : List Exchange → List ℕ
 script_out xs = flat_map (λ x. reply_lines Numbered x.session x.reply) xs

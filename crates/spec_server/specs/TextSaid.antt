@@ -10,7 +10,7 @@ use Rattle.spec_mps.specs.Reader.{State, start}
 use Rattle.spec_mps.specs.Steps as text
 use Rattle.spec_server.specs.Said.{Step, On, Says, said_by}
 
--- in the text of a model, and how many lines of it were read
+-- a stage in reading a model's text: the reader's state, and how many lines were read
 pub record TextStage : Type 0 where
   pub state : State
   pub lines : ℕ
@@ -25,14 +25,14 @@ behind_line n (Ok (text.More s)) = On (record { state = s; lines = n })
 behind_line n (Ok (text.Done m)) = Says (Ok m)
 behind_line n (Err code) = Says (Err (record { line = n; code = code }))
 
--- one line more of a text, which may end it
+-- what one more line of a model's text leads to: a further stage, the model, or the line's fault
 unfoldable pub text_step : SizeLimits → Style → TextStage → Line (List ℕ) → Step TextStage TextSaid
 text_step limits style stage line = behind_line (stage.lines + 1) (text.step limits style stage.state line)
 
--- what lines say where the model is within these limits; nothing where more are needed
+-- what lines of a model's text say: the model within these limits, or the first fault; none where more lines are needed
 abbrev pub text_said_within : SizeLimits → Style → List (Line (List ℕ)) → Option TextSaid
 text_said_within limits style lines = said_by (text_step limits style) (record { state = start; lines = 0 }) lines
 
--- what lines say where the model is within the usual limits
+-- what lines of a model's text say: the model within the usual limits, or the first fault; none where more are needed
 abbrev pub text_said : Style → List (Line (List ℕ)) → Option TextSaid
 text_said = text_said_within usual_limits

@@ -15,10 +15,10 @@ pub enum How {
     Fell(u32, Fall),
 }
 
-/// What was given to other sessions of an answer.
+/// What became of the basis of an answer, which other sessions may be given.
 #[derive(Clone, Copy)]
 pub enum Publication {
-    /// It is no optimum.
+    /// It is no optimum with a basis.
     Nothing,
     /// Its basis is the one that was found.
     Same,
@@ -26,7 +26,7 @@ pub enum Publication {
     Tried(Put),
 }
 
-/// The last answer of a session.
+/// The last answer of a session: how its last solve ended, how that was found, and what became of its basis.
 #[derive(Drop)]
 pub struct LastAnswer<F: Debug, L, B> {
     /// What the solve ended with.

@@ -8,7 +8,8 @@ use spec_exact::Past;
 use spec_mps::MpsFault;
 use std::fmt::Debug;
 
-/// What a session is asked.
+/// A request to a session: a command of one line, or what the lines of a whole `LOAD` or `CHECK` ask, or that a line
+/// is no command.
 #[derive(Drop)]
 pub enum Ask<M, R, E> {
     /// What one line asks alone.
@@ -33,7 +34,7 @@ pub struct Asked<A> {
     pub ask: A,
 }
 
-/// What a session replies.
+/// A session's reply to one request: a result, or that memory ran out, or a refusal.
 #[derive(Drop)]
 pub enum Reply<N, F: Debug, T, L> {
     /// The number of rows and of columns.
@@ -66,14 +67,14 @@ pub enum Reply<N, F: Debug, T, L> {
     Refused(Refusal<N, T>),
 }
 
-/// Why a session refuses.
+/// Why a session refuses a request, which leaves it as it was.
 #[derive(Drop)]
 pub enum Refusal<N, T> {
     /// A line is no command.
     Bad(LineFault),
     /// No model is loaded.
     NoModel,
-    /// No row or column has the name.
+    /// No row, or no column, as is asked for, has the name.
     Name(N),
     /// A row, the objective or a column has the new name already.
     Taken(N),

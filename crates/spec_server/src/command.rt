@@ -1,7 +1,7 @@
 // The command lines of a script, over the type E of edits.
 use spec_mps::Style;
 
-/// A command word.
+/// The first word of a command, which says what is asked.
 #[derive(Clone, Copy)]
 pub enum CommandWord {
     Load,
@@ -16,7 +16,7 @@ pub enum CommandWord {
     Edit(EditWord),
 }
 
-/// The command word of an edit.
+/// The command word of an edit, which says what of the model is to change.
 #[derive(Clone, Copy)]
 pub enum EditWord {
     AddRow,
@@ -31,7 +31,7 @@ pub enum EditWord {
     Sense,
 }
 
-/// A command of one line.
+/// A command that one line asks alone, without a text or a certificate behind it.
 #[derive(Drop)]
 pub enum Plain<E> {
     /// The session's model is asked for as a text.

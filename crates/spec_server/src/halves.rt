@@ -2,7 +2,7 @@
 // told what was found, and what became of what it published.
 use spec_board::{BasisWords, ShapeWords};
 
-/// How an ask begins.
+/// How a session begins a request: with its reply, or with a look for a basis.
 #[derive(Drop)]
 pub enum Started<R> {
     /// It has ended, with this reply.
@@ -11,7 +11,7 @@ pub enum Started<R> {
     Look(ShapeWords),
 }
 
-/// How a solve goes on.
+/// How a solve goes on after its look: with its reply, or with a basis to publish.
 #[derive(Drop)]
 pub enum Next<R> {
     /// The ask has ended, with this reply.

@@ -84,7 +84,8 @@ pub fn answers_are_true()
         (m : Model) × (old.model ≡ Some m) × Holds m known }
 {}
 
-/// Whatever is read, a solve answers what the cold solve at the limit finds, or memory runs out.
+/// Where the cold solve of a session's model, at the limit and within its budget, ends with an answer, the reply to
+/// `SOLVE` is the same one, or `MEMORY`. It is so whatever is read of the board.
 pub fn solves_answer_as_the_cold_run()
     ensures { (places : ℕ) (old new : State) (reads : List ExactRead) (replied : ExactReply) (m : Model)
         (known : Known ℚ) (cert : Certificate (List ℚ)) (basis : Option (List Status)) (pivots : ℕ) →
@@ -93,7 +94,8 @@ pub fn solves_answer_as_the_cold_run()
         (replied ≡ reply.Known known) ⊎ (replied ≡ reply.Memory) }
 {}
 
-/// The last answer that a session keeps stays one that its model may have.
+/// The last answer that a session keeps is one that its model may have: so it is in the opening state, and each step
+/// keeps it so.
 pub fn last_answers_fit()
     ensures opening { LastFits opening.model opening.last }
     ensures steps { (places : ℕ) (old new : State) (asked : ExactAsk) (reads : List ExactRead) (replied : ExactReply) →
@@ -109,24 +111,25 @@ pub fn sessions_keep_models()
         IfSome new.model IsUsualModel }
 {}
 
-/// The certificate of an answer is accepted if its lines are given to a session that holds the model.
+/// The certificate of an answer that a model may have is accepted, with memory enough, if its lines are given to a
+/// session that holds the model.
 pub fn certificates_are_accepted_back()
     ensures { (m : Model) (budget : ℕ) (known : Known ℚ) (cert : Certificate (List ℚ))
         (basis : Option (List Status)) (pivots : ℕ) →
         IsModel m → MayAnswer m budget (outcome.Ended known cert basis pivots) → IsAcceptedBack m known cert }
 {}
 
-/// For each list of requests whose models may be kept there are exchanges in which each session runs as one that is
-/// alone, with memory enough.
+/// For each list of requests whose models and edits may be kept there are exchanges of just these requests in which
+/// each session runs as one that is alone, and no reply is `MEMORY`.
 pub fn asks_have_a_run()
     ensures { (places : ℕ) (asks : List (asked_of ExactAsk)) → AreKept asks →
         (xs : List Exchange) × (map asked_in xs ≡ asks) × RunAlone places xs
         × (filter (λ x. is_memory x.reply) xs ≡ []) }
 {}
 
-/// The models that requests are to hold may be kept, and their edits have numbers and bounds that a kept model may
-/// have. The requests are those of lines, of the lines that end among some bytes, and of a whole script, whether its
-/// lines name sessions or not.
+/// The models that requests ask to load may be kept, and edits have numbers and bounds that a kept model may have. The
+/// requests are those of lines, of the lines that end among some bytes, and of a whole script, whether its lines name
+/// sessions or not.
 pub fn scripts_ask_kept_models()
     ensures lines { (addressing : addressing_kind) (lines : List (Line (List ℕ))) →
         AreKept (asks_from addressing Between lines) }
