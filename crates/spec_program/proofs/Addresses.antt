@@ -15,6 +15,7 @@ use Rattle.spec_program.proofs.NumberLimits.{none_is_not, row_of}
 
 -- ---- a word alone asks for no server
 
+-- the command line is no `serve`
 abbrev IsNoServer : ExactLine → Type 0
 IsNoServer (Run workers places) = Unit {0}
 IsNoServer (Read command style) = Unit {0}

@@ -1,6 +1,6 @@
 -- The numbers of a command line are within their limits.
 --
--- `none_is_not`: `None` is never `Some a`.
+-- `none_is_not`: no option is both `None` and `Some a`.
 -- `command-fits`: the numbers of a command line that words spell are within the limits of its command.
 use Rattle.std.proofs.Common.{◌≡◌, ℕ, ◌+◌, ◌-◌, ◌*◌, ◌≤◌, Bool, true, false, ◌&&◌, not, cond, nat_le, nat_lt, arith}
 use Rattle.std.proofs.Common.{List, [], ◌∷◌, length, Option, Some, None, refl, subst, ⊎_elim}

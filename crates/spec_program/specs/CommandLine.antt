@@ -20,11 +20,11 @@ use Rattle.spec_server.specs.Command.{number_to}
 abbrev pub Word : Type 0
 Word = List ℕ
 
--- a command line with the names themselves
+-- what a command line asks; the name of a column or row in it is a word
 abbrev pub ExactLine : Type 0
 ExactLine = CommandLine Word
 
--- a command that reads a text, with the names themselves
+-- a command that reads a text; the name of a column or row in it is a word
 abbrev pub ExactTextCommand : Type 0
 ExactTextCommand = TextCommand Word
 
@@ -42,7 +42,8 @@ OptionNames = List Word
 abbrev pub is_one_of : Word → OptionNames → Bool
 is_one_of name names = list_any (λ other. same name other) names
 
--- the words two by two, but a switch alone; nothing where the last name has no value
+-- the options that the words give, each name with the word behind it, or a switch with the empty word; none where the
+-- last name lacks its value
 abbrev pub in_pairs : OptionNames → List Word → Option Options
 in_pairs switches [] = Some []
 in_pairs switches (name ∷ []) = if is_one_of name switches then Some ((name, []) ∷ []) else None
@@ -56,12 +57,13 @@ abbrev pub are_distinct : OptionNames → Bool
 are_distinct [] = true
 are_distinct (name ∷ names) = not (is_one_of name names) && are_distinct names
 
--- each has one of these names, and no two have the same
+-- whether each option has one of these names, and no two have the same
 abbrev pub are_options_of : OptionNames → Options → Bool
 are_options_of names options =
     list_all (λ option. is_one_of option.0 names) options && are_distinct (map (λ option. option.0) options)
 
--- the options that the words give; nothing where they are no options with these names, of which some are switches
+-- the options that the words give; none where a name is not one of `names`, stands twice, or lacks its value. Switches
+-- have no value
 unfoldable pub options_in : OptionNames → OptionNames → List Word → Option Options
 options_in names switches words =
     option_and_then (λ options. if are_options_of names options then Some options else None) (in_pairs switches words)
@@ -71,7 +73,8 @@ pub record Given : Type 0 where
   pub plain : List Word
   pub options : Options
 
--- the first `plain` words, and the options behind them; none where the words are too few, or an option has another name
+-- the first `plain` words, and the options that the words behind them give; none where the words are too few, or those
+-- behind are no such options: another name, a name twice, a value that lacks
 unfoldable pub given_in : ℕ → OptionNames → OptionNames → List Word → Option Given
 given_in plain names switches words =
     if nat_le plain (length words)
@@ -81,69 +84,69 @@ given_in plain names switches words =
 
 -- ---- the table of commands
 
--- the form of a text that a word names
+-- the form of a text that a word names, `free` or `fixed`; none for any other word
 abbrev pub form_of : Word → Option Style
 form_of word = look_up word ((codes "free", Free) ∷ (codes "fixed", Fixed) ∷ [])
 
--- what is given by a word; the usual unless there is one
+-- what the word gives by `of`, or none where it gives nothing; the usual where there is no word
 abbrev pub given_or : {A : Type 0} → A → (Word → Option A) → Option Word → Option A
 given_or usual of None = Some usual
 given_or usual of (Some word) = of word
 
--- the form that the word of `--form` gives: the free one where it is not given
+-- the form that the word behind `--form` gives, or none for a wrong word; the free one where there is no word
 abbrev pub form_given : Option Word → Option Style
 form_given = given_or Free form_of
 
--- how many workers run a script where `--workers` is not given
+-- the number 1: how many workers run a script or serve where `--workers` is not given
 abbrev pub usual_workers : ℕ
 usual_workers = 1
 
--- how many workers a word gives, from 1 to 16, in at most 2 digits
+-- the number of workers that a word gives, from 1 to 16; none for any other word
 unfoldable pub workers_of : Word → Option ℕ
 workers_of word = number_to 16 2 word
 
--- how many workers are given
+-- the number of workers that the word behind `--workers` gives, or none for a wrong word; 1 where there is no word
 abbrev pub workers_given : Option Word → Option ℕ
 workers_given = given_or usual_workers workers_of
 
--- how many places the sessions share where `--places` is not given
+-- the number 256: how many places the sessions share where `--places` is not given
 abbrev pub usual_places : ℕ
 usual_places = 256
 
--- how many places a word gives, from 1 to 1,024, in at most 7 digits
+-- the number of places that a word gives, from 1 to 1,024; none for any other word
 unfoldable pub places_of : Word → Option ℕ
 places_of word = number_to 1024 7 word
 
--- how many places are given
+-- the number of places that the word behind `--places` gives, or none for a wrong word; 256 where there is no word
 abbrev pub places_given : Option Word → Option ℕ
 places_given = given_or usual_places places_of
 
--- how many links each worker serves, one after the other, where `--each` is not given
+-- the number 1: how many links each worker serves, one after the other, where `--each` is not given
 abbrev pub usual_links : ℕ
 usual_links = 1
 
--- how many links a word gives, from 1 to 1,000, in at most 4 digits
+-- the number of links that a word gives, from 1 to 1,000; none for any other word
 unfoldable pub links_of : Word → Option ℕ
 links_of word = number_to 1000 4 word
 
--- how many links each worker serves
+-- the number of links that the word behind `--each` gives, or none for a wrong word; 1 where there is no word
 abbrev pub links_given : Option Word → Option ℕ
 links_given = given_or usual_links links_of
 
--- a word that may be an address, or the name of a column or row: it is not empty, and does not begin as an option does
+-- whether a word may be an address, or the name of a column or row: it is not empty, and does not begin with `-`
 abbrev pub is_plain : Word → Bool
 is_plain [] = false
 is_plain (b ∷ bs) = not (b == 45)
 
--- the number that a model is made from, up to 1,000,000; 0 is one too
+-- the seed that a word gives, from 0 to 1,000,000; none for any other word
 unfoldable pub seed_of : Word → Option ℕ
 seed_of word = if same word (codes "0") then Some 0 else number_to 1000000 7 word
 
--- how many rows the word of `gen` gives, from 1 to 256
+-- the number of rows that a word of `gen` gives, from 1 to 256; none for any other word
 unfoldable pub row_count_of : Word → Option ℕ
 row_count_of word = number_to 256 3 word
 
--- how many columns the word of `gen` gives, from 1 to 512
+-- the number of columns that a word of `gen` gives, from 1 to 512; none for any other word
 unfoldable pub column_count_of : Word → Option ℕ
 column_count_of word = number_to 512 3 word
 
@@ -155,7 +158,7 @@ pub record Row : Type 0 where
   pub switches : OptionNames
   pub asks : Given → Option ExactLine
 
--- the command `run` with these numbers
+-- the command `run` with these numbers of workers and places; none where one is absent
 abbrev pub run_by : Option ℕ → Option ℕ → Option ExactLine
 run_by workers places = option_and_then (λ k. option_map (Run k) places) workers
 
@@ -169,7 +172,7 @@ run_row = record {
       (places_given (look_up (codes "--places") given.options));
 }
 
--- a command that reads a text, with its option
+-- the row of a command that reads a text and takes the option --form
 abbrev pub text_row : ExactTextCommand → Row
 text_row command = record {
   plain = λ words. 0;
@@ -178,12 +181,12 @@ text_row command = record {
   asks = λ given. option_map (Read command) (form_given (look_up (codes "--form") given.options));
 }
 
--- the command, or the one for numbers of any width where that is asked for
+-- the first command, or the second, for numbers of any width, where `--wide` is given
 abbrev pub by_width : ExactTextCommand → ExactTextCommand → Option Word → ExactTextCommand
 by_width narrow wide None = narrow
 by_width narrow wide (Some given) = wide
 
--- a command that reads a text, with one for large models and numbers of any width, and its options
+-- the row of a command that reads a text and takes --form and --wide, with which it is the second of these two
 abbrev pub wide_row : ExactTextCommand → ExactTextCommand → Row
 wide_row narrow wide = record {
   plain = λ words. 0;
@@ -193,29 +196,30 @@ wide_row narrow wide = record {
       (form_given (look_up (codes "--form") given.options));
 }
 
--- which number the range is of
+-- which kind of number a word of `range` means, `cost` or `rhs`; none for any other word
 abbrev pub moved_of : Word → Option Moved
 moved_of word = look_up word ((codes "cost", Cost) ∷ (codes "rhs", RightSide) ∷ [])
 
--- the name of a column or row that a word is
+-- the name of a column or row that a word is; none where it may be no name
 abbrev pub name_of : Word → Option Word
 name_of word = if is_plain word then Some word else None
 
--- `range` of one number, by what moves, its name and the form
+-- the command `range` of one number, by its kind, its name and the form; none where one of them is absent
 abbrev pub range_by : Option Moved → Option Word → Option Style → Option ExactLine
 range_by moved name style =
     option_and_then (λ w. option_and_then (λ n. option_map (Read (Range w n)) style) name) moved
 
--- the word for all numbers
+-- whether a word of `range` is `all`, for all numbers
 abbrev pub is_all : Word → Bool
 is_all word = same word (codes "all")
 
--- how many words `range` takes: one where it is the word for all ranges, and else two: what is ranged, and a name
+-- how many plain words `range` takes: one where that is `all`, else two, a kind of number and a name
 abbrev pub range_plain : List Word → ℕ
 range_plain [] = 2
 range_plain (what ∷ words) = if is_all what then 1 else 2
 
--- all numbers, or which and the name of its column or row; and the form
+-- the command `range` by its plain words, `all` or a kind of number and a name, and its options;
+-- none where they are wrong
 abbrev pub range_with : List Word → Options → Option ExactLine
 range_with (what ∷ []) options =
     if is_all what then option_map (Read RangeAll) (form_given (look_up (codes "--form") options)) else None
@@ -232,12 +236,12 @@ range_row = record {
   asks = λ given. range_with given.plain given.options;
 }
 
--- the command `gen` with a seed, a count of rows and a count of columns, where all three are there
+-- the command `gen` with a seed, a number of rows and one of columns; none where one is absent
 abbrev pub generate_by : Option ℕ → Option ℕ → Option ℕ → Option ExactLine
 generate_by seed rows columns =
     option_and_then (λ s. option_and_then (λ r. option_map (Generate s r) columns) rows) seed
 
--- a seed, and how many rows and columns
+-- the command `gen` by its three words; none where they are wrong
 abbrev pub generate_with : List Word → Option ExactLine
 generate_with (seed ∷ rows ∷ columns ∷ []) = generate_by (seed_of seed) (row_count_of rows) (column_count_of columns)
 generate_with words = None
@@ -246,12 +250,12 @@ generate_with words = None
 abbrev pub generate_row : Row
 generate_row = record { plain = λ words. 3; names = []; switches = []; asks = λ given. generate_with given.plain }
 
--- the command `serve` with the counts of workers, of links for each and of places, where all three are there
+-- the command `serve` with the numbers of workers, of links for each and of places; none where one is absent
 abbrev pub serve_by : Option ℕ → Option ℕ → Option ℕ → Option ExactLine
 serve_by workers each places =
     option_and_then (λ k. option_and_then (λ c. option_map (Serve k c) places) each) workers
 
--- an address, and the numbers of workers, of links for each of them, and of places
+-- the command `serve` by the word for its address and its options; none where they are wrong
 abbrev pub serve_with : List Word → Options → Option ExactLine
 serve_with (address ∷ []) options =
     if is_plain address
@@ -283,11 +287,12 @@ commands =
     ∷ (codes "serve", serve_row)
     ∷ []
 
--- the command that the words behind a command's own word give by its row, if they fit the row
+-- the command line that the words behind a command's own word give, by its row of the table;
+-- none where they do not fit it
 abbrev pub asked_by : List Word → Row → Option ExactLine
 asked_by words row = option_and_then row.asks (given_in (row.plain words) row.names row.switches words)
 
--- the command that the words behind the program's name give, if they give one
+-- the command line that the words behind the program's name give; none where they give none
 unfoldable pub command_line_of : List Word → Option ExactLine
 command_line_of [] = None
 command_line_of (word ∷ words) = option_and_then (asked_by words) (look_up word commands)
@@ -299,12 +304,13 @@ pub record Address : Type 0 where
   pub address : Word
   pub workers : ℕ
 
--- the address is the word after the command's; other command lines have none
+-- where these words ask a server to listen, by the second of them, and how many workers serve there; none where the
+-- command is not `serve`, or there is no second word
 abbrev pub served_at : List Word → Option ExactLine → Option Address
 served_at (word ∷ address ∷ words) (Some (Serve workers each places)) =
     Some (record { address = address; workers = workers })
 served_at words command = None
 
--- the address that `serve` is asked to listen at
+-- where these words ask a server to listen, and how many workers serve there; none where they are no command `serve`
 unfoldable pub address_of : List Word → Option Address
 address_of words = served_at words (command_line_of words)

@@ -9,7 +9,8 @@ use Rattle.spec_program.specs.declared.command_line.CommandLine.TheVariants.{Run
 abbrev pub IsLinks : ℕ → Type 0
 IsLinks each = (1 ≤ each) × (each ≤ 1000)
 
--- a command line has no numbers but those that its command can be done with
+-- each number of workers, places, links, rows and columns of the command line is within its limits; of a seed nothing
+-- is asked
 abbrev pub Fits : ExactLine → Type 0
 Fits (Run workers places) = IsWorkers workers × IsPlaces places
 Fits (Read command style) = Unit {0}

@@ -15,11 +15,11 @@ pub enum Moved {
 pub enum TextCommand<N> {
     /// To solve the model.
     Solve,
-    /// The same, with a certificate whose numbers may have any width where the solve is refused an operation.
+    /// To solve the model, with a certificate whose numbers may have any width where the solve is refused an operation.
     SolveWide,
     /// To check the certificate after the text.
     Check,
-    /// The same of a certificate whose numbers may have any width.
+    /// To check the certificate after the text, whose numbers may have any width.
     CheckWide,
     /// To solve the model from the basis of the file after the text.
     Basis,

@@ -19,12 +19,12 @@ ghost use Rattle.spec_program.specs.declared.command_line.CommandLine.TheVariant
 
 pub use command_line::{CommandLine, Moved, TextCommand};
 
-/// The command that a command line gives has only numbers that are within the limits of its options.
+/// Where words give a command line, its numbers of workers, places, links, rows and columns are within their limits.
 pub fn command_lines_fit()
     ensures { (words : List Word) (command : ExactLine) → command_line_of words ≡ Some command → Fits command }
 {}
 
-/// A command line that serves has an address, and as many workers as that says.
+/// Where a command line is `serve`, `address_of` gives for its words an address, with the command's number of workers.
 pub fn servers_have_addresses()
     ensures { (words : List Word) (workers each places : ℕ) →
         command_line_of words ≡ Some (lines.Serve workers each places) →
