@@ -73,7 +73,8 @@ part_fits letter name v h n = by (eq_ℚ v 0ℚ)
         let o = size_one (part_text letter name v) in
         omega arith
 
--- the lines of the first n values of a certificate take at most 204 bytes each
+-- the lines of the first n values of a certificate take at most 204 bytes each, where the names are names and the
+-- values have at most 127 bits
 below_fit : (letter : Letter) (names : ℕ → Name) (values : List ℚ) (n : ℕ) →
     ((k : ℕ) → k < n → is_name (names k) ≡ true) → ((k : ℕ) → k < n → IsNarrow (part values k))
     → size (lines_below letter names values n) ≤ 204 * n
@@ -85,23 +86,29 @@ below_fit letter names values (suc n) h k =
     omega arith
 
 module _ (m : Model) (kept : IsUsualModel m) where
+  -- the lines of one number of at most 127 bits for each column have at most 204 bytes for each column
   columns_fit : (letter : Letter) (xs : List ℚ) → length xs ≡ width m → All IsNarrow xs →
       size (column_lines m letter xs) ≤ 204 * width m
   columns_fit letter xs e h =
       below_fit letter (λ j. (column m j).name) xs (width m) (column_named m kept.0)
       (λ k l. h k 0ℚ (omega (arith, l, e)))
 
+  -- the lines of one number of at most 127 bits for each row have at most 204 bytes for each row
   rows_fit : (letter : Letter) (xs : List ℚ) → length xs ≡ height m → All IsNarrow xs →
       size (row_lines m letter xs) ≤ 204 * height m
   rows_fit letter xs e h =
       below_fit letter (λ i. (row m i).name) xs (height m) (row_named m kept.0) (λ k l. h k 0ℚ (omega (arith, l, e)))
 
+  -- a usual model has at most 512 columns
   wide : width m ≤ 512
   wide = kept.1.few_columns
 
+  -- a usual model has at most 256 rows
   high : height m ≤ 256
   high = kept.1.few_rows
 
+  -- the lines of the numbers of a certificate for a usual model have at most 208,896 bytes, where each number has at
+  -- most 127 bits
   parts_fit : (cert : Certificate (List ℚ)) → IsFor m cert → IsNarrowCertificate cert →
       size (all_part_lines m cert) ≤ 208896
   parts_fit (Optimal x y) f n =
@@ -120,6 +127,7 @@ module _ (m : Model) (kept : IsUsualModel m) where
       omega arith
   parts_fit (Clash j) f n = let z = size_none in omega arith
 
+  -- the first line of a certificate has at most 106 bytes
   kind_fits : (cert : Certificate (List ℚ)) → IsFor m cert → length (kind_text m cert) ≤ 106
   kind_fits (Optimal x y) f = omega arith
   kind_fits (Infeasible y) f = omega arith
@@ -130,6 +138,8 @@ module _ (m : Model) (kept : IsUsualModel m) where
       let a = length-append (codes "CLASH") (32 ∷ (column m j).name) in
       omega arith
 
+  -- the lines of a certificate for a usual model have at most 210,000 bytes, where each of its numbers has at most 127
+  -- bits
   certificate_fits : (cert : Certificate (List ℚ)) → IsFor m cert → IsNarrowCertificate cert →
       size (certificate_lines m cert) ≤ 210000
   unfolding certificate_lines_by

@@ -8,13 +8,16 @@ use Rattle.spec_text.specs.declared.line.Line.{Line}
 use Rattle.spec_text.specs.Lines.{line_of, ended_lines_of}
 use Rattle.spec_text.proofs.LineLemmas.{ended_lines_of_line, ended_lines_of_last}
 
+-- the lines of a text
 abbrev Lines : Type 0
 Lines = List (Line (List ℕ))
 
+-- none of these bytes is a line feed
 abbrev IsPlain : List ℕ → Type 0
 IsPlain line = All (λ b. b ≢ 10) line
 
--- those of the text, and those that end behind it, after this beginning of a line
+-- the lines that end in a text with more bytes behind it are those that end in the text, and then those that end in the
+-- bytes
 abbrev Splits : List ℕ → List ℕ → Type 0
 Splits text more = ended_lines_of (text ++ more) ≡ ended_lines_of text ++ ended_lines_of more
 

@@ -109,7 +109,7 @@ part_most rows j s v h =
     let upper = 1 + draw (next s) % 20 in
     ≤ℚ_trans v (whole (pos upper)) (whole (pos 20)) h.upper (whole_mono upper 20 (omega arith))
 
--- the value at which each column of a generated model is 20, which no feasible point exceeds
+-- the sum of 20 times the cost of each column; in a generated model no feasible point has a value above it
 most : Model → ℚ
 most m = sum_below (width m) (λ j. cost m j *ℚ whole (pos 20))
 

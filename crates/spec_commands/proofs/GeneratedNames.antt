@@ -1,9 +1,9 @@
 -- The names of generated rows and columns are names that a model may have, and no two are the same.
 --
--- `row_name_is`: the name of a generated row is one that a row may have.
--- `column_name_is`: the name of a generated column is one that a column may have.
--- `row_name_apart`: two generated rows have different names.
--- `column_name_apart`: two generated columns have different names.
+-- `row_name_is`: the name of each of the first 256 generated rows is one that a row may have.
+-- `column_name_is`: the name of each of the first 512 generated columns is one that a column may have.
+-- `row_name_apart`: two of the first 256 generated rows have different names.
+-- `column_name_apart`: two of the first 512 generated columns have different names.
 -- `objective_apart`: no generated row has the name of the objective.
 use Rattle.std.proofs.Common.{◌≡◌, ◌≢◌, ℕ, ◌+◌, ◌%◌, ◌^◌, ◌<◌, ◌≤◌, true, List}
 use Rattle.std.proofs.Common.{[], ◌∷◌, ◌++◌, length, get_or, refl, ◌∙◌, ap, arith}

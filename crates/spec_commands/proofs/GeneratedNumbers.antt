@@ -1,7 +1,7 @@
 -- Generated numbers are small and whole.
 --
--- `number_from_narrow`: a generated number has at most 127 bits.
--- `number_from_bound`: a generated number is one that a bound may be.
+-- `number_from_narrow`: a number that is drawn among at most 90 from at most 10 on has at most 127 bits.
+-- `number_from_bound`: a number that is drawn among at most 90 from at most 10 on is one that a bound may be.
 -- `number_from_not_zero`: a generated number is not 0 where the least one is above 0.
 use Rattle.std.proofs.Common.{◌≡◌, ◌≢◌, ℕ, ◌+◌, ◌%◌, ◌^◌, ◌<◌, ◌≤◌, Some, sym, subst, ap, arith, pos}
 use Rattle.std.specs.Prelude.{unsigned_abs}

@@ -38,13 +38,16 @@ use Rattle.spec_range.specs.Rule.{ends_by, falls_by, own_number, own_ends, is_mo
 use Rattle.spec_range.specs.Rule.{cost_ends, cost_run, shifted_run, still_ends, bound_ends, carried_ends, is_carried}
 use Rattle.spec_range.specs.Rule.{carried_if, nonbasic_ends, side_ends, side_run, cost_range, side_range}
 
+-- the limit of the program on numbers, of 127 bits
 abbrev limit : Option ℕ
 limit = Some number_limit
 
+-- each end of a range, where there is one, has at most 127 bits
 pub record NarrowEnds (e : Ends ℚ) : Type 0 where
   pub low : NarrowBound e.low
   pub high : NarrowBound e.high
 
+-- both ends of a range, where there are any, and its slope have at most 127 bits
 pub record NarrowRange (r : Range ℚ) : Type 0 where
   pub ends : NarrowEnds r.ends
   pub slope : IsNarrow r.slope
@@ -128,6 +131,8 @@ own_number_narrow s c AtUpper d v h n = difference_narrow c (least_cost s d) v h
 own_number_narrow s c AtZero d v h n = let e : c ≡ v = cc in subst IsNarrow e n
 
 module _ (s : Sense) (c : ℚ) (t : Tableau) (n : IsNarrow c) where
+  -- the ends that the reduced cost of a nonbasic column gives the range of its cost have at most 127 bits, where the
+  -- cost has
   own_narrow : (j : ℕ) (x : Ends ℚ) → own_ends limit s c t j ≡ Ok x → NarrowEnds x
   own_narrow j x h = by (is_fixed (lower_at t j) (upper_at t j)) h
     where
@@ -144,6 +149,7 @@ module _ (s : Sense) (c : ℚ) (t : Tableau) (n : IsNarrow c) where
           ends_by_narrow (status_at t j) (falls_by s (neg_ℚ 1ℚ)) o.0 no_ends x o.2
           (own_number_narrow s c (status_at t j) (reduced_at t j) o.0 o.1 n) none_narrow
 
+  -- where ends have at most 127 bits, so have those that one more nonbasic column leaves
   moved_narrow : (p k : ℕ) (e x : Ends ℚ) → moved_ends limit s c t p k e ≡ Ok x → NarrowEnds e → NarrowEnds x
   moved_narrow p k e x h m =
       let q = then_ok (quotient_run limit (least_cost s (reduced_at t k)) (entry_at t p k))
@@ -152,6 +158,7 @@ module _ (s : Sense) (c : ℚ) (t : Tableau) (n : IsNarrow c) where
       (λ v. ends_by limit (status_at t k) (falls_by s (entry_at t p k)) v e) x q.2 in
       ends_by_narrow (status_at t k) (falls_by s (entry_at t p k)) v.0 e x v.2 (sum_narrow c q.0 v.0 v.1) m
 
+  -- where ends have at most 127 bits, so have those that one more column leaves, whether or not it counts
   moved_if_narrow : (p k : ℕ) (e x : Ends ℚ) → moved_if limit s c t p k e ≡ Ok x → NarrowEnds e → NarrowEnds x
   moved_if_narrow p k e x h m = by (is_moved t p k) h
     where
@@ -159,6 +166,7 @@ module _ (s : Sense) (c : ℚ) (t : Tableau) (n : IsNarrow c) where
       by true q = moved_narrow p k e x q m
       by false q = same_narrow e x q m
 
+  -- the ends of the range of a column's cost have at most 127 bits, where the cost has
   cost_ends_narrow : (j : ℕ) (x : Ends ℚ) → cost_ends limit s c t j ≡ Ok x → NarrowEnds x
   cost_ends_narrow j x h = by (is_basic (status_at t j)) h
     where
@@ -218,6 +226,7 @@ carried_narrow b v a lower upper e x h n =
     bound_narrow b v a upper (not (lt_ℚ 0ℚ a)) o.0 x o.2 (bound_narrow b v a lower (lt_ℚ 0ℚ a) e o.0 o.1 n)
 
 module _ (b : ℚ) (t : Tableau) (s : ℕ) where
+  -- where ends have at most 127 bits, so have those that one more basic column leaves, whether or not it counts
   carried_if_narrow : (k : ℕ) (e x : Ends ℚ) → carried_if limit b t s k e ≡ Ok x → NarrowEnds e → NarrowEnds x
   carried_if_narrow k e x h n = by (is_carried t s k) h
     where
@@ -229,6 +238,7 @@ module _ (b : ℚ) (t : Tableau) (s : ℕ) where
           carried_narrow b (value_at t k) (entry_at t (place_of t k) s) (lower_at t k) (upper_at t k) e x q n
       by false q = same_narrow e x q n
 
+  -- the ends of the range of a right side have at most 127 bits
   side_ends_narrow : (x : Ends ℚ) → side_ends limit b t s ≡ Ok x → NarrowEnds x
   side_ends_narrow x h = by (is_basic (status_at t s)) (is_some (lower_at t s) || is_some (upper_at t s)) h
     where
@@ -257,6 +267,7 @@ side_run_narrow m t i r h k =
 
 -- ---- the tableau of a basis
 
+-- each value and each reduced cost of a tableau has at most 127 bits
 pub record NarrowNumbers (t : Tableau) : Type 0 where
   pub value : All IsNarrow t.value
   pub reduced : All IsNarrow t.reduced

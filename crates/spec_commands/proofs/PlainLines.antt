@@ -105,6 +105,7 @@ cost_kept name v h n =
           (All-nil IsNarrowColumn);
     }
 
+-- this name and the text of this number are short enough for a line
 pub record AreShort (name : Name) (v : ℚ) : Type 0 where
   pub short_name : IsShort name
   pub short_number : IsShort (number_text v)
@@ -139,7 +140,8 @@ words_plain a b c h k fits plain =
 
 -- ---- with numbers of which the texts fit in a line
 
--- behind a letter and a name
+-- the text of a number has at most 16,010 bytes, which leaves room for a letter and a name in a line, and these are
+-- spaces or printed ones
 pub record IsFitting (text : ℚ → List ℕ) (v : ℚ) : Type 0 where
   pub fits : length (text v) ≤ 16010
   pub plain : list_all is_plain (text v) ≡ true
@@ -152,9 +154,11 @@ narrow_fitting v n =
     record { fits = omega (arith, short); plain = s.plain }
 
 module _ (text : ℚ → List ℕ) where
+  -- the way of writing certificates whose numbers have these texts
   abbrev write : Writing ℚ
   write = writing_of text
 
+  -- the line of one number behind a letter and a name is plain, where the number's text fits a line
   part_plain : (letter : Letter) (name : Name) (v : ℚ) → is_name name ≡ true → IsFitting text v →
       All IsPlainLine (part_lines_by write letter name v)
   part_plain letter name v h n = by (eq_ℚ v 0ℚ)
@@ -166,6 +170,7 @@ module _ (text : ℚ → List ℕ) where
           (words_plain (letter_text letter) name (text v) (letter_short letter) (name_short name h) n.fits n.plain)
           (All-nil IsPlainLine)
 
+  -- the lines of the first n numbers behind a letter and their names are plain, where the numbers' texts fit a line
   below_plain : (letter : Letter) (names : ℕ → Name) (values : List ℚ) (n : ℕ) →
       ((k : ℕ) → k < n → is_name (names k) ≡ true) → ((k : ℕ) → k < n → IsFitting text (part values k))
       → All IsPlainLine (lines_below_by write letter names values n)
@@ -178,19 +183,23 @@ module _ (text : ℚ → List ℕ) where
 -- ---- a certificate
 
 module _ (m : Model) (kept : IsModel m) where
+  -- the name of each column of a model that is kept is a name
   pub column_named : (j : ℕ) → j < width m → is_name (column m j).name ≡ true
   column_named j l = (kept.columns j no_column l).name
 
+  -- the name of each row of a model that is kept is a name
   pub row_named : (i : ℕ) → i < height m → is_name (row m i).name ≡ true
   unfolding is_row_name
   row_named i l = (and_parts (is_name (row m i).name) _ (kept.rows i no_row l)).0
 
+  -- the line of a clash, with a short name of its column, is plain
   clash_plain : (name : Name) → IsShort name → IsPlainLine (codes "CLASH" ++ 32 ∷ name)
   clash_plain name h =
       let p = length-append (codes "CLASH") (32 ∷ name) in
       let x = h.fits in
       record { short = omega arith; plain = plain_both (codes "CLASH") (32 ∷ name) refl h.plain }
 
+  -- the first line of a certificate for the model is plain
   kind_plain : (cert : Certificate (List ℚ)) → IsFor m cert → IsPlainLine (kind_text m cert)
   kind_plain (Optimal x y) f = record { short = omega arith; plain = refl }
   kind_plain (Infeasible y) f = record { short = omega arith; plain = refl }
@@ -199,19 +208,23 @@ module _ (m : Model) (kept : IsModel m) where
       clash_plain (column m j).name (name_short (column m j).name (column_named j f))
 
   module _ (text : ℚ → List ℕ) where
+    -- the way of writing certificates of the model whose numbers have these texts
     abbrev written : Writing ℚ
     written = writing_of text
 
+    -- the lines of one number for each column are plain, where the numbers' texts fit a line
     columns_plain : (letter : Letter) (xs : List ℚ) → length xs ≡ width m → All (IsFitting text) xs →
         All IsPlainLine (column_lines_by written m letter xs)
     columns_plain letter xs e h =
         below_plain text letter (λ j. (column m j).name) xs (width m) column_named (λ k l. h k 0ℚ (omega (arith, l, e)))
 
+    -- the lines of one number for each row are plain, where the numbers' texts fit a line
     rows_plain : (letter : Letter) (xs : List ℚ) → length xs ≡ height m → All (IsFitting text) xs →
         All IsPlainLine (row_lines_by written m letter xs)
     rows_plain letter xs e h =
         below_plain text letter (λ i. (row m i).name) xs (height m) row_named (λ k l. h k 0ℚ (omega (arith, l, e)))
 
+    -- the lines of the numbers of a certificate are plain, where the numbers' texts fit a line
     parts_plain : (cert : Certificate (List ℚ)) → IsFor m cert → AllNumbers (IsFitting text) cert →
         All IsPlainLine (all_part_lines_by written m cert)
     parts_plain (Optimal x y) f n =
@@ -222,6 +235,7 @@ module _ (m : Model) (kept : IsModel m) where
         (columns_plain R r f.1 n.1)
     parts_plain (Clash j) f n = All-nil IsPlainLine
 
+    -- the lines of a certificate for the model are plain, where the texts of its numbers fit a line
     pub fitting_plain : (cert : Certificate (List ℚ)) → IsFor m cert → AllNumbers (IsFitting text) cert →
         All IsPlainLine (certificate_lines_by written m cert)
     unfolding certificate_lines_by
@@ -230,15 +244,18 @@ module _ (m : Model) (kept : IsModel m) where
         (All-cons IsPlainLine (kind_text m cert) (all_part_lines_by written m cert) (kind_plain cert f) (parts_plain cert f n))
         (All-cons IsPlainLine (codes "END") [] (record { short = omega arith; plain = refl }) (All-nil IsPlainLine))
 
+  -- the texts of numbers of at most 127 bits fit a line
   all_fitting : (xs : List ℚ) → All IsNarrow xs → All (IsFitting number_text) xs
   all_fitting xs h = λ k d l. narrow_fitting (get_or xs k d) (h k d l)
 
+  -- the texts of a certificate's numbers of at most 127 bits fit a line
   numbers_fitting : (cert : Certificate (List ℚ)) → IsNarrowCertificate cert → AllNumbers (IsFitting number_text) cert
   numbers_fitting (Optimal x y) n = (all_fitting x n.0, all_fitting y n.1)
   numbers_fitting (Infeasible y) n = all_fitting y n
   numbers_fitting (Clash j) n = tt
   numbers_fitting (Unbounded x r) n = (all_fitting x n.0, all_fitting r n.1)
 
+  -- the lines of a certificate for the model are plain, where its numbers have at most 127 bits
   pub certificate_plain : (cert : Certificate (List ℚ)) → IsFor m cert → IsNarrowCertificate cert →
       All IsPlainLine (certificate_lines m cert)
   certificate_plain cert f n = fitting_plain number_text cert f (numbers_fitting cert n)

@@ -32,7 +32,7 @@ use Rattle.spec_commands.specs.CheckWideOut.{behind_wide, wide_verdict_on, wide_
 use Rattle.spec_server.specs.Said.{follow, said_by}
 use Rattle.spec_server.proofs.Truth.{checked}
 
--- a verdict that a number is past 127 bits
+-- the verdict is that an operation is past the limit
 abbrev pub IsPast : Verdict ℚ → Type 0
 IsPast v = (p : Past ℚ) × (v ≡ verdict.Past p)
 
@@ -58,14 +58,16 @@ same_verdict m (Ok cert) v e = same_run m cert v e
 same_verdict m (Err (settle.UnknownName name)) v e = cc
 same_verdict m (Err (settle.Repeated name)) v e = cc
 
--- what lines say after a stage, and with wide numbers
+-- what `check` says of lines from a stage on
 abbrev says : List (Line (List ℕ)) → Stage → Option ExactReply
 says lines stage = said_by check_step stage lines
 
+-- what `check --wide` says of lines from a stage on
 abbrev wide_says : List (Line (List ℕ)) → Stage → Option ExactReply
 wide_says lines stage = said_by wide_step stage lines
 
--- from a stage on
+-- where `check` says a verdict of lines from a stage on, `check --wide` says it too, or the verdict is that an
+-- operation is past 127 bits
 abbrev Keeps : List (Line (List ℕ)) → Stage → Verdict ℚ → Type 0
 Keeps lines stage v =
     says lines stage ≡ Some (reply.Checked v) → (wide_says lines stage ≡ Some (reply.Checked v)) ⊎ IsPast v
@@ -96,7 +98,7 @@ refused : (n : ℕ) (v : Verdict ℚ) →
     ◌≡◌ {A = Option ExactReply} (Some (reply.Refused (refusal.Unfit n))) (Some (reply.Checked v)) → ⊥
 refused n v e = cc
 
--- where `check` and `check --wide` agree from the next line of a certificate on, they agree from this line on
+-- where `check --wide` keeps a verdict of `check` from the next line of a certificate on, it keeps it from this line on
 in_certificate : (m : Model) (s : Option ExactRaw) (n : ℕ) (line : Line (List ℕ)) (lines : List (Line (List ℕ)))
     (v : Verdict ℚ) → ((raw : ExactRaw) → Keeps lines (InCertificate m (Some raw) (n + 1)) v) →
     Keeps (line ∷ lines) (InCertificate m s n) v
@@ -118,7 +120,8 @@ from_certificate [] m s n v e = cc
 from_certificate (line ∷ lines) m s n v e =
     in_certificate m s n line lines v (λ raw. from_certificate lines m (Some raw) (n + 1) v) e
 
--- where `check` and `check --wide` agree after each outcome of a line of a model's text, they agree from this line on
+-- where `check --wide` keeps a verdict of `check` after each line of a model's text that goes on, or that ends the
+-- text, it keeps it from that line on
 in_text : (style : Style) (n : ℕ) (lines : List (Line (List ℕ))) (v : Verdict ℚ) →
     ((s : State) → Keeps lines (InText style s n) v) → ((m : Model) → Keeps lines (InCertificate m None 0) v) →
     (o : text.Outcome) → follow (behind_text style n o) (says lines) ≡ Some (reply.Checked v) →

@@ -14,6 +14,7 @@ use Rattle.spec_commands.proofs.PlainLines.{narrow_fitting}
 
 -- ---- digits
 
+-- the decimal digits of a number, put before a text
 abbrev onto : ℕ → ℕ → List ℕ → List ℕ
 onto fuel n acc = digits_onto fuel 10 false n acc
 

@@ -1,7 +1,8 @@
 -- What a wide solve writes is true, from a basis too, and `check --wide` accepts its certificate.
 --
--- `out_true`: what a wide solve writes is `OPEN`, or the line of an answer that is true of the model.
--- `based_true`: what a wide solve from a basis writes is `OPEN`, or the line of an answer that is true of the model.
+-- `out_true`: what a wide solve writes is `OPEN`, or begins with the line of an answer that is true of the model.
+-- `based_true`: what a wide solve from a basis writes is `OPEN`, or begins with the line of an answer that is true of
+--   the model.
 use Rattle.std.proofs.Common.{◌≡◌, ◌⊎◌, inl, inr, ℕ, ◌+◌, List, [], ◌∷◌, ◌++◌, map, get_or, Option, Some}
 use Rattle.std.proofs.Common.{None, Ok, Err, All, ap, ◌∙◌, append_assoc, arith, ◌≤◌, ◌-◌, length, take}
 use Rattle.std.specs.Prelude.{codes}
@@ -55,7 +56,7 @@ use Rattle.spec_commands.proofs.WrittenLengths.{take_behind}
 
 -- ---- an answer
 
--- the line of an open end, or that of an answer which is true
+-- what was written is the line `OPEN`, or begins with the line of an answer that is true of the model
 abbrev pub OpenOrTrue : Model → List ℕ → Type 0
 OpenOrTrue m written = (written ≡ ended_lines (codes "OPEN" ∷ [])) ⊎ ((known : Known ℚ) × (behind : List ℕ)
     × (written ≡ wide_known_text known ++ 10 ∷ behind) × Holds m known)
@@ -181,6 +182,7 @@ numbers_short (Unbounded x r) n = (all_short x n.0, all_short r n.1)
 module _ (style : Style) (front : List (Line (List ℕ))) (last : Line (List ℕ)) (m : Model) (known : Known ℚ)
     (cert : Certificate (List ℚ)) (undecided : text_said_within large_limits style front ≡ None)
     (spells : text.SpellsWithin large_limits style (front ++ last ∷ []) m) (shown : IsShown m known cert) where
+  -- `check --wide` says yes to lines of a text that spells the model and of a shown certificate, whatever lines follow
   accepted_lines : (more : List ℕ) →
       wide_said style ((front ++ last ∷ []) ++ ended_lines_of (ended_lines (wide_certificate_lines m cert) ++ more))
       ≡ Some (reply.Checked (Yes known))
@@ -199,6 +201,8 @@ module _ (style : Style) (front : List (Line (List ℕ))) (last : Line (List ℕ
       ∙ ap (λ settled. Some (wide_verdict_on m settled)) r.settled
       ∙ ap (λ run. Some (reply.Checked (verdict_of run))) shown.1
 
+  -- of a text that spells the model, with the lines of a shown certificate behind it, `check --wide` says yes, whatever
+  -- bytes follow
   pub accepted_early : (text : List ℕ) → ended_lines_of (text ++ 10 ∷ []) ≡ front ++ last ∷ [] →
       length ((text ++ 10 ∷ []) ++ ended_lines (wide_certificate_lines m cert)) ≤ input_limit →
       IsSaidEarly (wide_said style) ((text ++ 10 ∷ []) ++ ended_lines (wide_certificate_lines m cert))

@@ -2,9 +2,9 @@
 --
 -- `certificate_said`: what `check` says of the lines of a certificate is the verdict on the certificate that they
 --   spell.
--- `free_checks`: `check` accepts a model's text in free form with the certificate of its answer behind it.
--- `fixed_checks`: `check` accepts a model's text in fixed form, where it has one, with the certificate of its answer
---   behind.
+-- `free_checks`: `check` accepts a usual model's text in free form with the certificate of its answer behind it.
+-- `fixed_checks`: `check` accepts a usual model's text in fixed form, where it has one, with the certificate of its
+--   answer behind it.
 use Rattle.std.proofs.Common.{◌≡◌, ℕ, suc, ◌+◌, ◌-◌, ◌≤◌, true, false, Option, Some, None, Ok, Err, List, [], ◌∷◌, ◌++◌}
 use Rattle.std.proofs.Common.{get_or, length, take, map, refl, sym, ap, ◌∙◌, append_assoc, arith}
 use Rattle.std.specs.Prelude.{codes, All}
@@ -117,33 +117,40 @@ module _ (style : Style) (m : Model) (kept : IsUsualModel m)
     (spells : text.Spells style (lines_of (cards_text style (cards_of m))) m)
     (budget : ℕ) (known : Known ℚ) (cert : Certificate (List ℚ)) (basis : Option (List Status)) (pivots : ℕ)
     (h : MayAnswer m budget (Ended known cert basis pivots)) where
+  -- the lines of a usual model's text are plain
   plain_cards : All (λ card. IsPlainLine (line_text style card)) (cards_of m)
   plain_cards = λ i d l. plain_line style (get_or (cards_of m) i d) (cards_short m kept.0 i d l)
 
-  -- the cards before ENDATA, and ENDATA
+  -- the lines of the cards before ENDATA
   abbrev body : List (Line (List ℕ))
   body = card_lines style (inner_cards m)
 
+  -- the lines of a model's text are those of the cards before ENDATA, and ENDATA
   lines_split : card_lines style (cards_of m) ≡ body ++ Text (codes "ENDATA") ∷ []
   unfolding cards_of
   lines_split = map-append (λ card. Text (line_text style card)) (inner_cards m) (section_card (codes "ENDATA") ∷ [])
 
+  -- no line before ENDATA ends the text
   body_inner : All (λ l. ends_text l ≡ false) body
   body_inner =
       All-map (λ (l : Line (List ℕ)). ends_text l ≡ false) (λ card. Text (line_text style card)) (inner_cards m)
       (inner_lines style m)
 
+  -- the lines before ENDATA and ENDATA spell the model
   body_spells : text.judge usual_limits style start (0 + 1) (body ++ Text (codes "ENDATA") ∷ []) ≡ text.Spelled m
   body_spells =
       ap (text.judge usual_limits style start 1) (sym (has_its_lines style (cards_of m) plain_cards ∙ lines_split))
       ∙ spells
 
+  -- the bytes of the model's text
   abbrev model : List ℕ
   model = cards_text style (cards_of m)
 
+  -- the bytes of the certificate's lines
   abbrev behind : List ℕ
   behind = ended_lines (certificate_lines m cert)
 
+  -- the lines that end in the model's text, the certificate and more bytes are those of the three, one after the other
   whole_lines : (more : List ℕ) → ended_lines_of ((model ++ behind) ++ more)
       ≡ body ++ Text (codes "ENDATA") ∷ (map Text (certificate_lines m cert) ++ ended_lines_of more)
   unfolding ended_lines
@@ -156,7 +163,8 @@ module _ (style : Style) (m : Model) (kept : IsUsualModel m)
       ∙ ap (λ ls. ls ++ rest) lines_split
       ∙ append_assoc body (Text (codes "ENDATA") ∷ []) rest
 
-  -- what follows them within a limit
+  -- `check` says yes to the model's text and the certificate, within a limit on bytes that they keep, whatever bytes
+  -- follow
   within : (limit : ℕ) (more : List ℕ) → length (model ++ behind) ≤ limit →
       said style (ended_lines_of (take limit ((model ++ behind) ++ more))) ≡ Some (reply.Checked (Yes known))
   within limit more fits =
@@ -171,6 +179,7 @@ module _ (style : Style) (m : Model) (kept : IsUsualModel m)
       ∙ ap (λ settled. Some (verdict_on m settled)) r.settled
       ∙ ap (λ run. Some (reply.Checked (verdict_of run))) h.2
 
+  -- of the model's text with the certificate behind it, `check` says yes, and what is known, whatever bytes follow
   checks : IsSaidEarly (said style) (model ++ behind) (reply.Checked (Yes known))
   checks more = within input_limit more (text_fits style m kept cert h.0 h.1)
 

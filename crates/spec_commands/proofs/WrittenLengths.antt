@@ -33,11 +33,12 @@ take_behind limit xs more h =
 
 -- ---- a line
 
+-- the text of each field has at most 100 bytes
 abbrev AllFit : Fields → Type 0
 AllFit [] = Unit {0}
 AllFit (f ∷ fs) = (length f.text ≤ 100) × AllFit fs
 
--- blanks up to a column add nothing to a line that goes past it
+-- a line within a size of at least 49 stays within it when blanks are put behind it up to a column of at most 50
 blanks_fit : (column size : ℕ) (line : List ℕ) → column ≤ 50 → length line ≤ size → 49 ≤ size →
     length (line ++ replicate (column - 1 - length line) 32) ≤ size
 blanks_fit column size line c h w =
@@ -111,6 +112,7 @@ card_fits style (Head start (a ∷ b ∷ c ∷ d ∷ e ∷ fs)) h = absurd (let 
 
 -- ---- cards
 
+-- how many bytes the lines of cards may have, by the sorts of the cards
 abbrev weights : WrittenCards → ℕ
 weights [] = 0
 weights (card ∷ cards) = weight card + weights cards

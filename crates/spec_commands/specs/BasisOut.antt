@@ -32,7 +32,8 @@ use Rattle.spec_server.specs.Said.{Step, On, Says, said_by}
 
 -- ---- what is read
 
--- in the text of a model, or in the basis file after it, and how many lines of it were read
+-- a stage in reading the input of `basis`, in the model's text or in the file behind it:
+-- what was read there, and how many lines
 pub data Stage : Type 0 where
   InText : (style : Style) → (state : State) → (lines : ℕ) → Stage
   InFile : (model : Model) → (form : Form) → (state : file.State) → (lines : ℕ) → Stage
@@ -42,28 +43,31 @@ pub record Handed : Type 0 where
   pub model : Model
   pub basis : Option (List Status)
 
--- or the first wrong line of the text or of the file
+-- what `basis` says of its input: the model and, if it has a form, the basis; or the first wrong line of the text or
+-- of the file
 abbrev pub BasisSaid : Type 0
 BasisSaid = Result Handed BasisFault
 
--- a file is read where the model has a form at the limit; else nothing more is
+-- what follows the text of a model, by its form at the limit of numbers: the basis file for the form; or nothing where
+-- it has none, and the model is said without a basis
 abbrev pub begun_file : Model → Result Form (FormFault ℚ) → Step Stage BasisSaid
 begun_file m (Ok f) = On (InFile m f (file.start f) 0)
 begun_file m (Err why) = Says (Ok (record { model = m; basis = None }))
 
--- where a line of the text leads, which is line n
+-- what line n of the model's text leads to, by its outcome: a further stage in the text; behind its end the file, or
+-- the model alone where it has no form; or a fault
 abbrev pub behind_text : Style → ℕ → text.Outcome → Step Stage BasisSaid
 behind_text style n (Ok (text.More s)) = On (InText style s n)
 behind_text style n (Ok (text.Done m)) = begun_file m (form_of (Some number_limit) m)
 behind_text style n (Err code) = Says (Err (fault.Text (record { line = n; code = code })))
 
--- where a line of the file leads, which is its line n
+-- what line n of the basis file leads to, by its outcome: a further stage in the file, the basis, or a fault
 abbrev pub behind_file : Model → Form → ℕ → file.Outcome → Step Stage BasisSaid
 behind_file m f n (Ok (file.More s)) = On (InFile m f s n)
 behind_file m f n (Ok (file.Done basis)) = Says (Ok (record { model = m; basis = Some basis }))
 behind_file m f n (Err code) = Says (Err (fault.File (record { line = n; code = code })))
 
--- one line more of the text, or of the basis file behind it
+-- what one more line of the text, or of the basis file behind it, leads to: a further stage, or what `basis` says
 unfoldable pub basis_step : SizeLimits → Stage → Line (List ℕ) → Step Stage BasisSaid
 basis_step limits (InText style s n) line = behind_text style (n + 1) (text.step limits style s line)
 basis_step limits (InFile m f s n) line = behind_file m f (n + 1) (file.step m f s line)
@@ -73,41 +77,43 @@ basis_step limits (InFile m f s n) line = behind_file m f (n + 1) (file.step m f
 abbrev pub basis_said_from : SizeLimits → Stage → List (Line (List ℕ)) → Option BasisSaid
 basis_said_from limits stage lines = said_by (basis_step limits) stage lines
 
--- where the model is within these limits
+-- what `basis` says of the lines of its input, for models within these limits; none where more lines are needed
 abbrev pub basis_said : SizeLimits → Style → List (Line (List ℕ)) → Option BasisSaid
 basis_said limits style lines = basis_said_from limits (InText style start 0) lines
 
 -- ---- what is written
 
--- from where the solve found what it ended with, and its pivots and flips
+-- the text of a solve's route: cold, from the basis, or cold because the start from the basis stopped
 abbrev pub route_text : Route → List ℕ
 route_text route.Cold = codes "COLD"
 route_text route.Warm = codes "WARM"
 route_text (route.Fell why) = codes "FELL " ++ fall_text why
 
--- from which basis a solve found its end, and in how many pivots
+-- the line of a solve's route, and of its pivots and flips, with `-` for their number where there is no answer
 abbrev pub route_line : SolveEnd → List ℕ
 route_line solved =
     route_text solved.route ++ codes " PIVOTS " ++ pivots_text (pivots_of_solved solved.end) ++ 10 ∷ []
 
--- after an optimum its basis, as a file
+-- the basis file of a solve that ended with an optimum and its basis; empty after any other end, or without a form
 abbrev pub final_text : Model → Result Form (FormFault ℚ) → ExactSolveEnd → List ℕ
 final_text m (Ok f) (Ended (known.Optimal v) certificate (Some basis) pivots) = bas_text m f basis
 final_text m form end = []
 
--- the answer's line, how it was found, its certificate, and the basis
+-- the lines that `basis` writes of a solve: the answer or why there is none, the route, the certificate of an answer,
+-- and after an optimum with a basis its basis file
 unfoldable pub basis_lines : Model → SolveEnd → List ℕ
 basis_lines m solved =
     check_line (answer_of opening_budget solved.end) ++ route_line solved
     ++ ended_lines (lines_of_solved m solved.end) ++ final_text m (form_of (Some number_limit) m) solved.end
 
--- the line of a fault
+-- the line that `basis` writes of a fault in the model's text or in the basis file
 unfoldable pub basis_fault_line : BasisFault → List ℕ
 basis_fault_line (fault.Text why) = check_line (reply.Refused (refusal.Misspelled why))
 basis_fault_line (fault.File why) =
     codes "ERR 17 BAS " ++ decimal why.line ++ codes " B" ++ decimal (code_number why.code) ++ 10 ∷ []
 
--- what a solve of the model ends with, from the basis and within the budget of a new session; or the fault
+-- `basis` may write this: the lines of an end that a solve of the model may have, from the basis and within the budget
+-- of a new session; or the line of the fault
 abbrev pub BasisOut : BasisSaid → List ℕ → Type 0
 BasisOut (Ok handed) written =
     (solved : SolveEnd) × IsSolved handed.model opening_budget handed.basis solved

@@ -17,25 +17,28 @@ use Rattle.spec_server.specs.Output.{ended_lines}
 use Rattle.spec_server.specs.WideLines.{wide_known_text, wide_lines}
 use Rattle.spec_commands.specs.BasisOut.{BasisSaid, BasisOut}
 
--- from where the answer was found, and the pivots and flips that were made from a basis or after it
+-- the text of where an exact answer was found: `COLD` where no basis was handed; else `WARM` from the basis or `FELL`
+-- without it, with the number of pivots and flips
 abbrev pub origin_text : Origin → List ℕ
 origin_text Cold = codes "COLD"
 origin_text (Warm pivots) = codes "WARM PIVOTS " ++ decimal pivots
 origin_text (Fell pivots) = codes "FELL PIVOTS " ++ decimal pivots
 
--- the basis of the answer, as a file, where there is one
+-- the basis file of an answer; empty where it has no basis, or the model no form
 abbrev pub based_text : Model → Result Form (FormFault ℚ) → Option (List Status) → List ℕ
 based_text m (Ok f) (Some basis) = bas_text m f basis
 based_text m form basis = []
 
--- the answer's line, how it was found, its certificate, and the basis; or that nothing is known
+-- the lines that `basis --wide` writes of an exact solve: the answer, where it was found, its certificate, and its
+-- basis file if it has a basis; or `OPEN` alone without an answer
 abbrev pub based_lines : Model → RationalEnd → List ℕ
 based_lines m (Answered a) =
     ended_lines (wide_known_text a.known ∷ origin_text a.origin ∷ wide_certificate_lines m a.certificate)
     ++ based_text m (form_of (Some number_limit) m) a.basis
 based_lines m Open = ended_lines (wide_lines m Open)
 
--- what an exact solve of the model ends with, from the basis and within the budget of a new session; or the fault
+-- `basis --wide` may write this: the lines of an end that an exact solve of the model may have, from the basis and
+-- within the budget of a new session; or the line of the fault
 abbrev pub BasisWideOut : BasisSaid → List ℕ → Type 0
 BasisWideOut (Ok handed) written =
     (end : RationalEnd) × IsExactEnd handed.model opening_budget handed.basis end

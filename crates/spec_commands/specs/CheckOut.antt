@@ -17,24 +17,26 @@ use Rattle.spec_server.specs.Output.{check_line}
 pub use Rattle.spec_server.specs.Said.{Step, On, Says, follow}
 use Rattle.spec_server.specs.Said.{said_by}
 
--- in the text of a model, or in the certificate after it, and how many lines of it were read
+-- a stage in reading the input of `check`, in the model's text or in the certificate behind it: what was read there,
+-- and how many lines
 pub data Stage : Type 0 where
   InText : (style : Style) → (state : State) → (lines : ℕ) → Stage
   InCertificate : (model : Model) → (so_far : Option certificate.ExactRaw) → (lines : ℕ) → Stage
 
--- where a line of the text leads, which is line n
+-- what line n of the model's text leads to, by its outcome: a further stage in the text,
+-- the certificate behind it, or a refusal
 abbrev pub behind_text : Style → ℕ → text.Outcome → Step Stage ExactReply
 behind_text style n (Ok (text.More s)) = On (InText style s n)
 behind_text style n (Ok (text.Done m)) = On (InCertificate m None 0)
 behind_text style n (Err code) = Says (reply.Refused (refusal.Misspelled (record { line = n; code = code })))
 
--- where a line of the certificate leads, which is its line n
+-- what line n of the certificate leads to, by its outcome: a further stage, the verdict on it, or a refusal
 abbrev pub behind_certificate : Model → ℕ → certificate.Outcome → Step Stage ExactReply
 behind_certificate m n (progress.More raw) = On (InCertificate m (Some raw) n)
 behind_certificate m n (progress.Done raw) = Says (verdict_on m (certificate_for m raw))
 behind_certificate m n progress.Unfit = Says (reply.Refused (refusal.Unfit n))
 
--- one line more of the text, or of the certificate behind it
+-- what one more line of the text, or of the certificate behind it, leads to: a further stage, or what `check` says
 unfoldable pub check_step : Stage → Line (List ℕ) → Step Stage ExactReply
 check_step (InText style s n) line = behind_text style (n + 1) (text.step usual_limits style s line)
 check_step (InCertificate m so_far n) line = behind_certificate m (n + 1) (certificate.step so_far line)
@@ -44,11 +46,11 @@ check_step (InCertificate m so_far n) line = behind_certificate m (n + 1) (certi
 abbrev pub said_from : Stage → List (Line (List ℕ)) → Option ExactReply
 said_from stage lines = said_by check_step stage lines
 
--- what `check` says of lines from the first on
+-- what `check` says of the lines of its input; none where more lines are needed
 abbrev pub said : Style → List (Line (List ℕ)) → Option ExactReply
 said style lines = said_from (InText style start 0) lines
 
--- the line of it alone may be written
+-- what `check` may write of what it says: its line alone
 abbrev pub CheckOut : ExactReply → List ℕ → Type 0
 CheckOut replied written = written ≡ check_line replied
 

@@ -26,33 +26,36 @@ use Rattle.spec_server.specs.Output.{reply_text}
 use Rattle.spec_commands.specs.CheckOut.{Stage, InText, InCertificate, behind_text}
 use Rattle.spec_server.specs.Said.{Step, On, Says, said_by}
 
--- the verdict on a certificate, or its name that does not fit the model
+-- the reply to a certificate that was matched with the model: the verdict of the check without a limit; or a refusal
+-- where a name does not match
 abbrev pub wide_verdict_on : Model → Settled (Certificate (List ℚ)) → ExactReply
 wide_verdict_on m (Ok certificate) = reply.Checked (verdict_of (check_run None m certificate))
 wide_verdict_on m (Err fault) = settle_reply fault
 
--- where a line of the certificate leads, which is its line n
+-- what line n of the certificate leads to, by its outcome: a further stage,
+-- the verdict on it without a limit, or a refusal
 abbrev pub behind_wide : Model → ℕ → certificate.Outcome → Step Stage ExactReply
 behind_wide m n (progress.More raw) = On (InCertificate m (Some raw) n)
 behind_wide m n (progress.Done raw) = Says (wide_verdict_on m (certificate_for m raw))
 behind_wide m n progress.Unfit = Says (reply.Refused (refusal.Unfit n))
 
--- one line more of the text, or of the certificate behind it
+-- what one more line of the text, or of the certificate behind it, leads to: a further stage,
+-- or what `check --wide` says
 unfoldable pub wide_step : Stage → Line (List ℕ) → Step Stage ExactReply
 wide_step (InText style s n) line = behind_text style (n + 1) (text.step (limits_of CheckWide) style s line)
 wide_step (InCertificate m so_far n) line = behind_wide m (n + 1) (step_by wide so_far line)
 
--- what `check --wide` says of lines from the first on
+-- what `check --wide` says of the lines of its input; none where more lines are needed
 abbrev pub wide_said : Style → List (Line (List ℕ)) → Option ExactReply
 wide_said style lines = said_by wide_step (InText style start 0) lines
 
--- the text of a reply of `check --wide`: an optimal value of any width in lowest terms, and any other reply as `check`
--- writes it
+-- the text of a reply of `check --wide`: the value of an optimum at any width, as `wide_text` writes it, and any other
+-- reply as `check` writes it
 abbrev pub wide_reply_text : ExactReply → List ℕ
 wide_reply_text (reply.Checked (verdict.Yes (known.Optimal v))) = codes "YES OPTIMAL " ++ wide_text v
 wide_reply_text replied = reply_text replied
 
--- the line that is written of it
+-- the line that `check --wide` writes of a reply
 unfoldable pub wide_check_line : ExactReply → List ℕ
 wide_check_line replied = wide_reply_text replied ++ 10 ∷ []
 

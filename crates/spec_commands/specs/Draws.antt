@@ -3,7 +3,7 @@
 use Rattle.std.specs.Prelude.{ℕ, zero, suc, ◌+◌, ◌*◌, ◌/◌, ◌%◌, ◌^◌, List, map}
 use Rattle.std.specs.List.{range_with_len}
 
--- the state after a draw
+-- the generator's state after a draw at state s
 unfoldable pub next : ℕ → ℕ
 next s = (1103515245 * s + 12345) % 2 ^ 31
 
@@ -11,7 +11,7 @@ next s = (1103515245 * s + 12345) % 2 ^ 31
 unfoldable pub draw : ℕ → ℕ
 draw s = next s / 65536
 
--- the state after n draws
+-- the generator's state after n draws from state s on
 abbrev pub after : ℕ → ℕ → ℕ
 after zero s = s
 after (suc n) s = next (after n s)

@@ -10,11 +10,11 @@ use Rattle.spec_server.specs.declared.asks.Reply.TheVariants as reply
 use Rattle.spec_server.specs.Machine.{opening_budget, answer_of, pivots_of_solved}
 use Rattle.spec_server.specs.Output.{check_line, pivots_text}
 
--- how many entries are not 0
+-- how many entries the columns of a model list together
 abbrev pub entry_count : Model → ℕ
 entry_count m = sum_by (λ column. length column.entries) m.columns
 
--- the line of a model's rows, columns and entries
+-- the line of how many rows, columns and entries a model has
 unfoldable pub size_text : Model → List ℕ
 size_text m =
     codes "MODEL "
@@ -25,7 +25,8 @@ size_text m =
     ++ decimal (entry_count m)
     ++ 10 ∷ []
 
--- what `gen` writes of a model: the line of its size, the line of the answer, and the line of the pivots and flips
+-- what `gen` writes of a model: the line of its size, the line of the answer or of why there is none, and the line of
+-- the pivots and flips, with `-` where there is no answer
 unfoldable pub generated_lines : Model → ExactSolveEnd → List ℕ
 generated_lines m solved =
     size_text m
@@ -34,7 +35,8 @@ generated_lines m solved =
     ++ pivots_text (pivots_of_solved solved)
     ++ 10 ∷ []
 
--- what a solve of the model ends with, cold and within the budget of a new session
+-- `gen` may write this of a model: the line of its size, and the lines on the answer and the pivots of an end that a
+-- cold solve of it may have, within the budget of a new session
 abbrev pub SolvedOut : Model → List ℕ → Type 0
 SolvedOut m written =
     (solved : SolveEnd) × IsSolved m opening_budget None solved × (written ≡ generated_lines m solved.end)

@@ -21,17 +21,17 @@ use Rattle.spec_server.specs.TextSaid.{TextSaid}
 
 -- ---- a side
 
--- whether it is of a row or of a column
+-- the word `ROW ` where the flag is true, for a side of a row; else `COLUMN `, for one of a column
 abbrev pub kind_word : Bool → List ℕ
 kind_word true = codes "ROW "
 kind_word false = codes "COLUMN "
 
--- the word of an upper or a lower side
+-- the word `UPPER ` where the flag is true, for an upper side; else `LOWER `, for a lower one
 abbrev pub end_word : Bool → List ℕ
 end_word true = codes "UPPER "
 end_word false = codes "LOWER "
 
--- the name of its row or column
+-- the name of the row or column of a side
 abbrev pub side_name : Model → Side → Name
 side_name m s = if s.row then (row m s.at).name else (column m s.at).name
 
@@ -41,7 +41,7 @@ side_line m s = kind_word s.row ++ end_word s.upper ++ side_name m s
 
 -- ---- points
 
--- behind the number of each, which is one more than of the one before, its parts that are not 0
+-- the lines of points: for each its number, from n + 1 on, and its values that are not 0
 abbrev pub point_lines : Model → ℕ → List (List ℚ) → List (List ℕ)
 point_lines m n [] = []
 point_lines m n (z ∷ points) =
@@ -49,7 +49,8 @@ point_lines m n (z ∷ points) =
 
 -- ---- what is written
 
--- the lines of an irreducible set: its number of sides, the sides, the certificate and the points
+-- the lines of an irreducible set: `INFEASIBLE`, its number of sides, the sides, the certificate of the model with
+-- these sides alone, the points and `END`
 unfoldable pub found_lines : Model → List Side → Certificate (List ℚ) → List (List ℚ) → List (List ℕ)
 found_lines m sides cert points =
     codes "INFEASIBLE"
@@ -59,17 +60,19 @@ found_lines m sides cert points =
     ++ point_lines m 0 points
     ++ codes "END" ∷ [])
 
--- what a solve ended with, as a search that stops prints it
+-- the words for what a solve ended with, as the reply of a new session has them
 abbrev pub end_words : ExactSolveEnd → List ℕ
 end_words end = reply_text (answer_of opening_budget end)
 
--- the answer's line, and what was found or why nothing was
+-- the lines that `iis` writes of a search: the set that was found; or the reply to the model's own solve, where that
+-- did not end infeasible; or `INFEASIBLE` and with which reply the search stopped
 abbrev pub iis_lines : Model → ExactIis → List (List ℕ)
 iis_lines m (Found sides cert points) = found_lines m sides cert points
 iis_lines m (Other end) = end_words end ∷ []
 iis_lines m (Stopped end) = codes "INFEASIBLE" ∷ (codes "STOPPED " ++ end_words end) ∷ []
 
--- of the model, within the budget of a new session for each solve; or the line of the fault
+-- `iis` may write this: the lines of what a search in the model may end with, each solve within the budget of a new
+-- session; or the line of the text's fault
 abbrev pub IisOut : TextSaid → List ℕ → Type 0
 IisOut (Ok m) written =
     (found : ExactIis) × MayFind m opening_budget found × (written ≡ ended_lines (iis_lines m found))

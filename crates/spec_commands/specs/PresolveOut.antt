@@ -14,12 +14,12 @@ use Rattle.spec_server.specs.Output.{check_line}
 use Rattle.spec_server.specs.TextSaid.{TextSaid}
 use Rattle.spec_commands.specs.SolveOut.{solved_lines}
 
--- the refused operation, or that the budget is spent
+-- the line for why a model was not solved by a smaller one: the refused operation, or that the budget is spent
 abbrev pub why_line : ExactWhy → List ℕ
 why_line (why.Past q) = check_line (reply.Past q)
 why_line why.Spent = codes "SPENT" ++ 10 ∷ []
 
--- the rows and columns that are left
+-- the line for how a model was solved: by a smaller one of so many rows and columns, or as it is, for this reason
 abbrev pub way_line : Way ℚ → List ℕ
 way_line (Reduced rows columns) = codes "REDUCED " ++ decimal rows ++ codes " " ++ decimal columns ++ 10 ∷ []
 way_line (Plain why) = codes "PLAIN " ++ why_line why
@@ -28,7 +28,8 @@ way_line (Plain why) = codes "PLAIN " ++ why_line why
 unfoldable pub presolved_lines : Model → ExactPresolved → List ℕ
 presolved_lines m p = way_line p.way ++ solved_lines m p.end
 
--- what a solve by a smaller model ends with, within the budget of a new session; or the line of the fault
+-- `presolve` may write this: the lines of an end that a solve of the model may have, by a smaller model or as it is,
+-- within the budget of a new session; or the line of the text's fault
 abbrev pub PresolveOut : TextSaid → List ℕ → Type 0
 PresolveOut (Ok m) written =
     (p : ExactPresolved) × IsPresolved m opening_budget p × (written ≡ presolved_lines m p)

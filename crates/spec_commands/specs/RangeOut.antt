@@ -25,24 +25,25 @@ use Rattle.spec_server.specs.TextSaid.{TextSaid}
 use Rattle.spec_program.specs.declared.command_line.Moved.{Moved}
 use Rattle.spec_program.specs.declared.command_line.Moved.TheVariants.{Cost, RightSide}
 
--- where the column, or the row, with the name stands; the objective is no row
+-- the number of the column, or for a right side of the row, with a name; none where there is none.
+-- The objective is no row
 abbrev pub place_by : Moved → Model → Name → Option ℕ
 place_by Cost m name = column_place m name
 place_by RightSide m name = row_place m name
 
--- the range of its number at a limit, from a basis of the form
+-- the range of a column's cost or of a row's right side, at a limit, from a basis of the form; or why there is none
 abbrev pub range_of : Moved → Option ℕ → Model → Form → List Status → ℕ → Result (Range ℚ) (StartStop ℚ)
 range_of Cost limit m f basis at = cost_range limit m f basis at
 range_of RightSide limit m f basis at = side_range limit m f basis at
 
 -- ---- what is written
 
--- an end as it is printed
+-- the text of an end of a range: its number, or `NONE` where there is no end
 abbrev pub end_text : Option ℚ → List ℕ
 end_text None = codes "NONE"
 end_text (Some v) = fraction_text v
 
--- the line of a range
+-- the line of a range: its lower end, its upper end and its slope
 unfoldable pub range_line : Range ℚ → List ℕ
 range_line r =
     codes "RANGE "
@@ -53,39 +54,46 @@ range_line r =
     ++ fraction_text r.slope
     ++ 10 ∷ []
 
--- the range, or the operation that is past the limit; the basis of an optimum is never singular
+-- the line of a range, or of the operation that is past the limit; nothing for a singular basis, which that of an
+-- optimum never is
 abbrev pub ranged_text : Result (Range ℚ) (StartStop ℚ) → List ℕ
 ranged_text (Ok r) = range_line r
 ranged_text (Err (stop.Past p)) = check_line (reply.Past p)
 ranged_text (Err stop.Singular) = []
 
--- the line of a number's range for a basis of the model's form; nothing where the model has no form
+-- the line of a number's range for a basis of the model's form, or of the operation past the limit; nothing where the
+-- model has no form
 abbrev pub based_text : Moved → Model → List Status → ℕ → Result Form (FormFault ℚ) → List ℕ
 based_text moved m basis at (Ok f) = ranged_text (range_of moved (Some number_limit) m f basis at)
 based_text moved m basis at (Err why) = []
 
--- the line of a number's range for the basis of an optimal answer; nothing after any other end
+-- the line of a number's range for the basis with which a solve ended at an optimum, or of the operation past the
+-- limit; nothing after any other end, without a basis, or where the model has no form
 abbrev pub range_text : Moved → Model → ℕ → ExactSolveEnd → List ℕ
 range_text moved m at (Ended (known.Optimal v) certificate (Some basis) pivots) =
     based_text moved m basis at (form_of (Some number_limit) m)
 range_text moved m at end = []
 
--- the answer's line, and the range
+-- the lines that `range` writes of a solve: the answer or why there is none, and after an optimum with a basis the
+-- range, or the operation past the limit
 unfoldable pub range_lines : Moved → Model → ℕ → ExactSolveEnd → List ℕ
 range_lines moved m at solved =
     check_line (answer_of opening_budget solved) ++ range_text moved m at solved
 
--- what a solve of the model ends with, cold and within the budget of a new session
+-- `range` may write this of a number of the model: the lines of an end that a cold solve of the model may have, within
+-- the budget of a new session, and after an optimum the number's range
 abbrev pub RangedOut : Moved → Model → ℕ → List ℕ → Type 0
 RangedOut moved m at written =
     (solved : SolveEnd) × IsSolved m opening_budget None solved × (written ≡ range_lines moved m at solved.end)
 
--- where nothing has the name, that alone
+-- `range` may write this of a model: the lines of the number that is named, or where nothing has the name,
+-- a refusal alone
 abbrev pub PlaceOut : Moved → Name → Model → Option ℕ → List ℕ → Type 0
 PlaceOut moved name m None written = written ≡ check_line (reply.Refused (refusal.Name name))
 PlaceOut moved name m (Some at) written = RangedOut moved m at written
 
--- or the line of the fault
+-- `range` may write this of its input: the lines of the model's number of this name, or a refusal where it has none; or
+-- the line of the text's fault
 abbrev pub RangeOut : Moved → Name → TextSaid → List ℕ → Type 0
 RangeOut moved name (Ok m) written = PlaceOut moved name m (place_by moved m name) written
 RangeOut moved name (Err fault) written = written ≡ check_line (reply.Refused (refusal.Misspelled fault))

@@ -10,12 +10,13 @@ use Rattle.spec_server.specs.Machine.{opening_budget, answer_of, lines_of_solved
 use Rattle.spec_server.specs.Output.{check_line, ended_lines}
 use Rattle.spec_server.specs.TextSaid.{TextSaid}
 
--- the answer's line, and the lines of its certificate
+-- the lines that `solve` writes of a solve: the answer and its certificate, or the line of why there is no answer
 unfoldable pub solved_lines : Model → ExactSolveEnd → List ℕ
 solved_lines m solved =
     check_line (answer_of opening_budget solved) ++ ended_lines (lines_of_solved m solved)
 
--- what a solve of the model ends with, cold and within the budget of a new session; or the line of the fault
+-- `solve` may write this: the lines of an end that a cold solve of the model may have, within the budget of a new
+-- session; or the line of the text's fault
 abbrev pub SolveOut : TextSaid → List ℕ → Type 0
 SolveOut (Ok m) written =
     (solved : SolveEnd) × IsSolved m opening_budget None solved × (written ≡ solved_lines m solved.end)

@@ -7,7 +7,8 @@ use Rattle.spec_server.specs.WideLines.{wide_lines}
 use Rattle.spec_server.specs.TextSaid.{TextSaid}
 use Rattle.spec_commands.specs.SolveOut.{SolveOut}
 
--- what an exact solve of the model ends with, within the budget of a new session; or the line of the fault
+-- `solve --wide` may write this: the lines of an end that an exact solve of the model may have, within the budget of a
+-- new session; or the line of the text's fault
 abbrev pub SolveWideOut : TextSaid → List ℕ → Type 0
 SolveWideOut (Ok m) written =
     (end : RationalEnd) × IsExactEnd m opening_budget None end × (written ≡ ended_lines (wide_lines m end))

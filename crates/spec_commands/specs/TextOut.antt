@@ -32,7 +32,7 @@ SaidBy Iis = TextSaid
 SaidBy (Range moved name) = TextSaid
 SaidBy RangeAll = TextSaid
 
--- by the lines of the input; nothing where more are needed
+-- what a command says of the lines of its input; none where more lines are needed
 abbrev pub said_of : (command : ExactTextCommand) → Style → List (Line (List ℕ)) → Option (SaidBy command)
 said_of Solve style lines = text_said style lines
 said_of SolveWide style lines = text_said_within (limits_of SolveWide) style lines
@@ -45,7 +45,7 @@ said_of Iis style lines = text_said style lines
 said_of (Range moved name) style lines = text_said style lines
 said_of RangeAll style lines = text_said style lines
 
--- what may be written of it
+-- a command may write these bytes, and no others with them, where it says this of its input
 abbrev pub MayWrite : (command : ExactTextCommand) → SaidBy command → List ℕ → Type 0
 MayWrite Solve what written = SolveOut what written
 MayWrite SolveWide what written = SolveWideOut what written

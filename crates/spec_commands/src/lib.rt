@@ -83,9 +83,9 @@ pub fn last_answers_stand_up()
         (reply.Checked (verdict.Yes known)) }
 {}
 
-/// Anyone can check an answer: to the text of its model with the lines of its certificate after it the command `check`
-/// says yes, and that the same is known, whatever follows. It is so in both forms, where fixed form has room for the
-/// model.
+/// Anyone can check an answer for a model that sessions may hold. To its text with the lines of the certificate after
+/// it the command `check` says yes, and that the same is known, whatever follows. It is so in free form, and in fixed
+/// form where this has room for the model.
 pub fn answers_check_against_the_written_text()
     ensures free { (m : Model) (budget : ℕ) (known : Known ℚ) (cert : Certificate (List ℚ))
         (basis : Option (List Status)) (pivots : ℕ) →
@@ -99,7 +99,8 @@ pub fn answers_check_against_the_written_text()
         (reply.Checked (verdict.Yes known)) }
 {}
 
-/// What a check says of a certificate is said where numbers may have any width too, unless an operation is past 127 bits.
+/// The verdict of a check at 127 bits on a certificate is also that of a check where numbers may have any width, unless
+/// it is that an operation is past the limit.
 pub fn wide_checks_say_the_same()
     ensures { (style : Style) (lines : List (Line (List ℕ))) (v : Verdict ℚ) →
         said style lines ≡ Some (reply.Checked v) →
@@ -134,14 +135,14 @@ pub fn wide_answers_check_against_the_text()
         (reply.Checked (verdict.Yes a.known)) }
 {}
 
-/// The basis that a solve leaves to which nothing was handed shows that its point is optimal.
+/// Where a solve to which no basis was handed leaves a basis, this shows that its point is optimal in the model.
 pub fn solved_bases_keep_models()
     ensures { (m : Model) (budget : ℕ) (solved : SolveEnd) (known : Known ℚ) (cert : Certificate (List ℚ))
         (left : List Status) (pivots : ℕ) →
         IsSolved m budget None solved → solved.end ≡ outcome.Ended known cert (Some left) pivots → Keeps m left }
 {}
 
-/// The draws begin as those of the C standard's example do.
+/// The first five draws from state 1 on are those of the C standard's example.
 #[tactic(auto, unfolding(crate::specs::Draws::next, crate::specs::Draws::draw))]
 pub fn draws_are_those_of_the_c_standard()
     ensures { draws 5 1 ≡ 16838 ∷ 5758 ∷ 10113 ∷ 17515 ∷ 31051 ∷ [] }
