@@ -24,7 +24,7 @@ use Rattle.spec_truth.proofs.WideReplies.{ends_agree}
 
 -- ---- answers
 
--- two ends by an operation past the limit are the same in this operation
+-- where two ends by an operation past the limit are the same, the operations are
 past_same : (p q : Refused ℚ) → ◌≡◌ {A = ExactSolveEnd} (Past p) (Past q) → p ≡ q
 past_same p q e = cc
 
@@ -48,18 +48,19 @@ answers_same_but m budget Spent Spent p q = inl refl
 
 -- ---- states
 
--- both have a last answer, or neither has
+-- of two last answers both are there, or neither is
 abbrev BothOrNeither : Option ExactLastAnswer → Option ExactLastAnswer → Type 0
 BothOrNeither None None = Unit {0}
 BothOrNeither (Some a) (Some b) = Unit {0}
 BothOrNeither a b = ⊥
 
--- the states differ in the last answer alone
+-- two states have the same model and the same budget, and both or neither have a last answer
 record IsAlike (a b : State) : Type 0 where
   models : a.model ≡ b.model
   budgets : a.budget ≡ b.budget
   lasts : BothOrNeither a.last b.last
 
+-- two replies to one request are the same, or may differ to it, and the two states after them are alike
 record StepsAgree (asked : ExactAsk) (replied replied' : ExactReply) (new new' : State) : Type 0 where
   same : IsSameBut asked replied replied'
   alike : IsAlike new new'
@@ -67,6 +68,7 @@ record StepsAgree (asked : ExactAsk) (replied replied' : ExactReply) (new new' :
 -- ---- what is due
 
 module _ (a b : State) (alike : IsAlike a b) (replied replied' : ExactReply) (new new' : State) where
+  -- where alike states stay as they are, and their stated replies are the same or may differ, the two steps agree
   stays : (asked : ExactAsk) (stated stated' : ExactReply) → IsSameBut asked stated stated' →
       (replied ≡ stated) × (new ≡ a) → (replied' ≡ stated') × (new' ≡ b) → StepsAgree asked replied replied' new new'
   stays asked stated stated' s x y = record {
@@ -74,6 +76,7 @@ module _ (a b : State) (alike : IsAlike a b) (replied replied' : ExactReply) (ne
     alike = subst (λ t. IsAlike t new') (sym x.1) (subst (IsAlike a) (sym y.1) alike);
   }
 
+  -- where alike states give the same stated reply and go on to alike states, the two steps agree
   goes : (asked : ExactAsk) (stated : ExactReply) (next next' : State) → IsAlike next next' →
       (replied ≡ stated) × (new ≡ next) → (replied' ≡ stated) × (new' ≡ next') →
       StepsAgree asked replied replied' new new'
@@ -82,6 +85,8 @@ module _ (a b : State) (alike : IsAlike a b) (replied replied' : ExactReply) (ne
     alike = subst (λ t. IsAlike t new') (sym x.1) (subst (IsAlike next) (sym y.1) s);
   }
 
+  -- the replies of two alike states to a solve of one model are the same, or one knows an answer that the other does
+  -- not
   answers_agree : (m : Model) (s : SolveStep a m replied new) (s' : SolveStep b m replied' new') →
       IsSameBut (ask.Plain command.Solve) replied replied'
   answers_agree m s s' =
@@ -100,6 +105,7 @@ module _ (a b : State) (alike : IsAlike a b) (replied replied' : ExactReply) (ne
           inr (subst (λ t. MayDiffer (ask.Plain command.Solve) t replied') (sym s.answer)
           (subst (MayDiffer (ask.Plain command.Solve) (answer_of a.budget s.end)) (sym second) d))
 
+  -- a solve of one model from two alike states gives steps that agree
   solves_agree : (m : Model) → SolveStep a m replied new → SolveStep b m replied' new' →
       StepsAgree (ask.Plain command.Solve) replied replied' new new'
   solves_agree m s s' = record {
@@ -108,12 +114,14 @@ module _ (a b : State) (alike : IsAlike a b) (replied replied' : ExactReply) (ne
         (subst (IsAlike _) (sym s'.kept) (record { models = alike.models; budgets = alike.budgets; lasts = tt }));
   }
 
+  -- a solve from two alike states, with a model or without, gives steps that agree
   solve_agrees : (held : Option Model) → Does a (solve_due a held) replied new →
       Does b (solve_due b held) replied' new' →
       StepsAgree (ask.Plain command.Solve) replied replied' new new'
   solve_agrees None x y = stays (ask.Plain command.Solve) _ _ (inl refl) x y
   solve_agrees (Some m) x y = solves_agree m x y
 
+  -- an exact solve of one model from two alike states gives steps that agree
   wides_agree : (m : Model) → WideStep a m replied new → WideStep b m replied' new' →
       StepsAgree (ask.Plain command.Wide) replied replied' new new'
   wides_agree m s s' =
@@ -121,23 +129,27 @@ module _ (a b : State) (alike : IsAlike a b) (replied replied' : ExactReply) (ne
       stays (ask.Plain command.Wide) (reply.Wide (wide_lines m s.end)) (reply.Wide (wide_lines m s'.end))
       (inr won) (s.answer, s.stays) (s'.answer, s'.stays)
 
+  -- an exact solve from two alike states, with a model or without, gives steps that agree
   wide_agrees : (held : Option Model) → Does a (wide_due a held) replied new →
       Does b (wide_due b held) replied' new' →
       StepsAgree (ask.Plain command.Wide) replied replied' new new'
   wide_agrees None x y = stays (ask.Plain command.Wide) _ _ (inl refl) x y
   wide_agrees (Some m) x y = wides_agree m x y
 
+  -- an edit with one result, made or refused, from two alike states gives steps that agree
   edit_agrees : (asked : ExactAsk) (r : OrFault Model) → Does a (edit_due a r) replied new →
       Does b (edit_due b r) replied' new' → StepsAgree asked replied replied' new new'
   edit_agrees asked (Ok m) x y =
       goes asked _ _ _ (record { models = refl; budgets = alike.budgets; lasts = tt }) x y
   edit_agrees asked (Err why) x y = stays asked _ _ (inl refl) x y
 
+  -- an edit from two alike states, with a model or without, gives steps that agree
   change_agrees : (asked : ExactAsk) (held : Option Model) (e : ExactEdit) → Does a (change_due a held e) replied new →
       Does b (change_due b held e) replied' new' → StepsAgree asked replied replied' new new'
   change_agrees asked None e x y = stays asked _ _ (inl refl) x y
   change_agrees asked (Some m) e x y = edit_agrees asked (edited m e) x y
 
+  -- the replies to CERT are the same, or both are certificates, where both states have a last answer or neither has
   certs_agree : (held : Option Model) (p q : Option ExactLastAnswer) → BothOrNeither p q →
       IsSameBut (ask.Plain command.Cert) (cert_reply held p) (cert_reply held q)
   certs_agree None None None h = inl refl
@@ -147,6 +159,7 @@ module _ (a b : State) (alike : IsAlike a b) (replied replied' : ExactReply) (ne
   certs_agree held None (Some q) h = absurd h
   certs_agree held (Some p) None h = absurd h
 
+  -- the replies to HOW are the same, or both tell how, where both states have a last answer or neither has
   hows_agree : (p q : Option ExactLastAnswer) → BothOrNeither p q →
       IsSameBut (ask.Plain command.How) (how_reply p) (how_reply q)
   hows_agree None None h = inl refl
@@ -154,6 +167,7 @@ module _ (a b : State) (alike : IsAlike a b) (replied replied' : ExactReply) (ne
   hows_agree None (Some q) h = absurd h
   hows_agree (Some p) None h = absurd h
 
+  -- what is due to one request from two alike states gives steps that agree
   due_agrees : (asked : ExactAsk) → Does a (due a asked) replied new → Does b (due b asked) replied' new' →
       StepsAgree asked replied replied' new new'
   due_agrees (ask.Plain (command.Write form)) x y =
@@ -187,7 +201,7 @@ module _ (a b : State) (alike : IsAlike a b) (replied replied' : ExactReply) (ne
 
 -- ---- steps and runs
 
--- two states alike but for last answers stay so after one request to both, and the replies agree, with memory enough
+-- two alike states (`IsAlike`) stay so after one request to both, and the replies agree, with memory enough
 steps_agree : (places places' : ℕ) (a b : State) → IsAlike a b → (asked : ExactAsk) (reads reads' : List ExactRead)
     (replied replied' : ExactReply) (new new' : State) →
     AloneStep places a asked reads replied new → AloneStep places' b asked reads' replied' new' →
@@ -209,10 +223,11 @@ heads a b as' bs e = cc
 tails : (a b : ExactAsk) (as' bs : List ExactAsk) → a ∷ as' ≡ b ∷ bs → as' ≡ bs
 tails a b as' bs e = cc
 
+-- the requests of these exchanges, in order
 abbrev asks_in : List Exchange → List ExactAsk
 asks_in xs = map (λ (x : Exchange). x.ask) xs
 
--- two runs with the same requests from states alike but for last answers have replies that agree, with memory enough
+-- two runs with the same requests from alike states (`IsAlike`) have replies that agree, with memory enough
 run_agrees : (places places' : ℕ) (a b : State) (xs ys : List Exchange) (c d : State) → IsAlike a b →
     AloneRun places a xs c → AloneRun places' b ys d → asks_in xs ≡ asks_in ys → HasMemory xs → HasMemory ys →
     RepliesAgree xs ys

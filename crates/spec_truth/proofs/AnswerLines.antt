@@ -4,7 +4,8 @@
 -- `same_rest`: two texts that are the same have the same bytes behind their first line.
 -- `number_no_feed`: the text of a number of at most 127 bits has no line feed.
 -- `read_back`: the text of a number of at most 127 bits reads as this number.
--- `read_as`: where a number's text and a line feed begin a text, its first line reads as the number.
+-- `read_as`: where the text of a number of at most 127 bits and a line feed begin a text, its first line reads as the
+--   number.
 -- `apart`: two numbers that the test of equality tells apart are different.
 -- `optimal_line`: an answer that is shown and printed as `OPTIMAL` and a text is right: the text reads as the optimal
 --   value.
@@ -34,6 +35,7 @@ use Rattle.spec_truth.proofs.Shown.{IsShownBy, shown_holds, value_fits}
 
 -- ---- lines end at their first line feed
 
+-- none of these bytes is a line feed
 abbrev HasNoFeed : List ℕ → Type 0
 HasNoFeed line = All (λ b. b ≢ 10) line
 
@@ -47,7 +49,7 @@ same_line (d ∷ a) (c ∷ b) x y h k e =
     let rest : a ≡ b = same_line a b x y (All-tail (λ b. b ≢ 10) d a h) (All-tail (λ b. b ≢ 10) c b k) more in
     cc
 
--- what follows the first line feed
+-- where two texts are the same and neither line has a line feed, the bytes behind the first line feed are the same
 pub same_rest : (a b x y : List ℕ) → HasNoFeed a → HasNoFeed b → a ++ 10 ∷ x ≡ b ++ 10 ∷ y → x ≡ y
 same_rest [] [] x y h k e = cc
 same_rest [] (c ∷ b) x y h k e = absurd (All-head (λ b. b ≢ 10) c b k (let z : 10 ≡ c = cc in sym z))
@@ -79,6 +81,7 @@ read_as v text x y h k e =
     let same : number_text v ≡ text = same_line (number_text v) text x y (number_no_feed v h) k e in
     ap number_of (sym same) ∙ read_back v h
 
+-- the first of these bytes; 0 where there is none
 abbrev pub first : List ℕ → ℕ
 first bytes = get_or bytes 0 0
 

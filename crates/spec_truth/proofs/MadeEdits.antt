@@ -20,6 +20,7 @@ use Rattle.spec_truth.proofs.TrueRuns.{steps_then, own_first}
 
 -- ---- the edit
 
+-- a model is held, and the edit e may be made of it: the edited model is `after`
 record IsMade (held : Option Model) (e : ExactEdit) : Type 0 where
   before : Model
   is_held : held ≡ Some before

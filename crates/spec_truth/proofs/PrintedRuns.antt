@@ -1,8 +1,8 @@
 -- In a run of sessions, what the text of a reply says is true of the model that the session has then.
 --
 -- `value_said`: where a reply prints `OPTIMAL` and a text, the text reads as the optimal value of the model held then.
--- `known_said`: where a reply prints the text of an answer, after `YES` or not, the answer holds of the model held
---   then.
+-- `known_said`: where a reply prints a text, after `YES` or not, that no reply but those with this answer prints so,
+--   the answer holds of the model held then.
 use Rattle.std.proofs.Common.{◌≡◌, inl, inr, ℕ, List, ◌∷◌, ◌++◌, Some, sym, ◌∙◌, ap}
 use Rattle.std.specs.Prelude.{codes}
 use Rattle.spec_exact.specs.Fraction.{ℚ}

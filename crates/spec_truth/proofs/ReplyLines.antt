@@ -1,6 +1,6 @@
 -- Which reply a line is the line of, where it says what is known of a model.
 --
--- `yes_reply`: a reply whose text begins as `YES` accepts a certificate.
+-- `yes_reply`: a reply whose text begins with the byte `Y` accepts a certificate.
 -- `wide_reply`: a reply whose text is `WIDE` and a count is one of a wide solve.
 -- `valued`: an answer whose text is `OPTIMAL` and a text is an optimum, with a value of this text.
 -- `infeasible`: an answer whose text is `INFEASIBLE` is this one.
@@ -25,15 +25,17 @@ use Rattle.spec_server.specs.Machine.{ExactReply}
 use Rattle.spec_server.specs.Output.{known_text, reply_text}
 use Rattle.spec_truth.proofs.AnswerLines.{first, apart}
 
+-- the reply to a solve that knows this answer
 abbrev pub answer_to : Known ℚ → ExactReply
 answer_to what = reply.Known what
 
+-- the reply that accepts a certificate, which shows this answer
 abbrev pub yes_to : Known ℚ → ExactReply
 yes_to what = reply.Checked (verdict.Yes what)
 
 -- ---- by their first bytes
 
--- whether bytes begin as OPTIMAL, INFEASIBLE or UNBOUNDED do
+-- whether bytes begin as OPTIMAL, INFEASIBLE or UNBOUNDED do and no other reply: with I, with U or with OP
 abbrev pub looks_known : List ℕ → Bool
 looks_known bytes = (first bytes == 73) || (first bytes == 85) || ((first bytes == 79) && (get_or bytes 1 0 == 80))
 
@@ -60,7 +62,7 @@ known_reply reply.Bye h = not_so h
 known_reply reply.Memory h = not_so h
 known_reply (reply.Refused why) h = not_so h
 
--- whether bytes begin as YES does
+-- whether the first byte is Y, as of YES and of no other reply
 abbrev pub looks_yes : List ℕ → Bool
 looks_yes bytes = first bytes == 89
 
@@ -84,7 +86,7 @@ yes_reply reply.Bye h = not_so h
 yes_reply reply.Memory h = not_so h
 yes_reply (reply.Refused why) h = not_so h
 
--- whether bytes begin as WIDE does
+-- whether the first byte is W, as of WIDE and of no other reply
 abbrev looks_wide : List ℕ → Bool
 looks_wide bytes = first bytes == 87
 

@@ -40,7 +40,7 @@ use Rattle.spec_server.specs.Machine.{ExactReply, verdict_on, answer_of}
 use Rattle.spec_server.proofs.Truth.{said_yes, checked}
 use Rattle.spec_truth.specs.TrueAnswer.{IsTrueOf}
 
--- a certificate for the model, to which the checker says yes
+-- the model has a certificate by which the checker, in numbers of at most 127 bits, says this answer
 pub record IsShown (m : Model) (what : Known ℚ) : Type 0 where
   pub cert : Certificate (List ℚ)
   pub fits : IsFor m cert

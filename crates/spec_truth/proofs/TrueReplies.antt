@@ -38,6 +38,8 @@ use Rattle.spec_truth.proofs.WideReplies.{BeginsTrue, lines_true}
 
 -- ---- which replies answer, which speak of a certificate, and which are of a wide solve
 
+-- The sort of a reply: 1 for one that a solve may give, known or not; 2 for a verdict on a certificate; 3 for the lines
+-- of a wide solve; 0 for every other.
 abbrev sort : ExactReply → ℕ
 sort (reply.Known what) = 1
 sort (reply.Past p) = 1
@@ -46,7 +48,7 @@ sort (reply.Checked what) = 2
 sort (reply.Wide lines) = 3
 sort replied = 0
 
--- the sort of what is due; a solve answers
+-- the sort of the reply that is due: of the reply where that is known, 1 for a solve, 3 for a wide solve
 abbrev due_sort : Due → ℕ
 due_sort (Replies replied next) = sort replied
 due_sort (Solves m) = 1
@@ -134,7 +136,7 @@ wide_no_yes : (state : State) (held : Option Model) → due_sort (wide_due state
 wide_no_yes state None h = cc
 wide_no_yes state (Some m) h = cc
 
--- the reply to a solve is an answer
+-- the reply to a solve is of the sort of answers, whether it knows one or not
 answer_sort : (budget : ℕ) (end : ExactSolveEnd) → sort (answer_of budget end) ≡ 1
 answer_sort budget (outcome.Ended known certificate basis pivots) = refl
 answer_sort budget (outcome.Past p) = refl
@@ -158,6 +160,7 @@ step_done places old new asked reads replied n s h = by (step_simply places old 
 
 -- ---- what is shown of the model that is held
 
+-- a model is held, and it has a certificate by which the checker says this answer
 pub record IsShownOfHeld (held : Option Model) (what : Known ℚ) : Type 0 where
   pub model : Model
   pub is_held : held ≡ Some model
@@ -223,7 +226,7 @@ yes_is_shown places old new asked reads what s =
 
 -- ---- an exact solve
 
--- the lines begin with what is true of the model that is held, or with the one that says that nothing is known
+-- a model is held, and the first of the lines is a true answer of it, or the one that says that nothing is known
 pub record IsWideOfHeld (held : Option Model) (lines : List (List ℕ)) : Type 0 where
   pub model : Model
   pub is_held : held ≡ Some model

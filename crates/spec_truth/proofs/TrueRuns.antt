@@ -29,7 +29,7 @@ use Rattle.spec_truth.proofs.WideReplies.{BeginsTrue}
 
 -- ---- the step of one exchange in a run
 
--- a run of two lists is one of each
+-- the exchanges xs run from state a to some middle state, and ys from there to state c
 pub record Splits (places : ℕ) (a c : State) (xs ys : List Exchange) : Type 0 where
   pub middle : State
   pub first : AloneRun places a xs middle
@@ -50,7 +50,8 @@ same_session n = eq-eqb n n refl
 pub own_first : (x : Exchange) (xs : List Exchange) → of_session x.session (x ∷ xs) ≡ x ∷ of_session x.session xs
 own_first x xs = ap (λ t. cond t (x ∷ of_session x.session xs) (of_session x.session xs)) (same_session x.session)
 
--- the session holds this model as it is asked, and steps from there
+-- at the exchange x, its session holds the model that the exchanges `before` say, and takes a step with the request,
+-- reads and reply of x
 pub record StepsThen (places : ℕ) (before : List Exchange) (x : Exchange) : Type 0 where
   pub old : State
   pub new : State
@@ -76,7 +77,8 @@ steps_then places before behind x fits =
 
 -- ---- what it replies
 
--- this is shown of the model that the session has then
+-- the session of x has a model after the exchanges `before`, and a certificate by which the checker says this answer of
+-- it
 pub record IsShownThen (before : List Exchange) (x : Exchange) (what : Known ℚ) : Type 0 where
   pub model : Model
   pub is_held : model_then x.session before ≡ Some model
@@ -86,6 +88,8 @@ pub record IsShownThen (before : List Exchange) (x : Exchange) (what : Known ℚ
 module _ (says : Known ℚ → ExactReply)
     (shows : (places : ℕ) (old new : State) (asked : ExactAsk) (reads : List ExactRead) (what : Known ℚ) →
     AloneStep places old asked reads (says what) new → IsShownOfHeld old.model what) where
+  -- where an exchange in a run has the reply that says this answer, the answer is shown of the model that its session
+  -- has then
   said_then : (places : ℕ) (before behind : List Exchange) (x : Exchange) (what : Known ℚ) →
       RunAlone places (before ++ x ∷ behind) → x.reply ≡ says what → IsShownThen before x what
   said_then places before behind x what fits is =

@@ -21,13 +21,13 @@ use Rattle.spec_server.specs.declared.command.Plain.TheVariants as command
 use Rattle.spec_server.specs.Machine.{ExactReply}
 use Rattle.spec_truth.specs.Agree.{IsOpen, IsWonLine, IsSameBut}
 
--- the line of an answer that is true of the model
+-- the line is that of an answer that holds of the model
 pub record IsKnownLine (m : Model) (line : List ℕ) : Type 0 where
   pub what : Known ℚ
   pub is_line : line ≡ wide_known_text what
   pub holds : Holds m what
 
--- of the first of some lines
+-- there is a first line, and it is `OPEN` or the line of an answer that is true of the model
 abbrev pub BeginsTrue : Model → List (List ℕ) → Type 0
 BeginsTrue m [] = ⊥
 BeginsTrue m (line ∷ more) = IsOpen line ⊎ IsKnownLine m line

@@ -11,8 +11,8 @@ use Rattle.spec_server.specs.Addressing.{addressed_in}
 use Rattle.spec_server.specs.Machine.{ExactAsk}
 use Rattle.spec_server.specs.Script.{Between, pending_after, asks_from}
 
--- The lines in front ask what was asked before. The next line is the command LOAD of the session, and the body after
--- it spells the model.
+-- The first of the script's lines make the requests `before` and end between two commands. The next line is LOAD for
+-- the session, and the lines right behind it spell the model m. Other lines may follow.
 pub record IsLoadedFrom (addressing : Addressing) (lines : List (Line (List ℕ))) (before : List (Asked ExactAsk))
     (session : ℕ) (m : Model) : Type 0 where
   pub style : Style

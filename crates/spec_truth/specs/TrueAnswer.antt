@@ -10,11 +10,11 @@ use Rattle.spec_server.specs.declared.asks.Reply.TheVariants as reply
 use Rattle.spec_server.specs.Machine.{ExactReply}
 use Rattle.spec_server.specs.Output.{reply_text}
 
--- the text of a reply is `text`, or the word YES and `text`, as for a yes to a certificate
+-- the first line of a reply is `text`, or the word YES and `text`, as for a yes to a certificate
 abbrev pub Says : ExactReply → List ℕ → Type 0
 Says replied text = (reply_text replied ≡ text) ⊎ (reply_text replied ≡ codes "YES " ++ text)
 
--- the reply answers a solve, and is true of the model, of which PAST and SPENT say nothing
+-- the reply is one to a solve, and what it knows is true of the model; of PAST and SPENT nothing more is asked
 abbrev pub IsTrueOf : Model → ExactReply → Type 0
 IsTrueOf m (reply.Known (known.Optimal v)) = IsOptimal m v
 IsTrueOf m (reply.Known known.Infeasible) = IsInfeasible m
@@ -23,7 +23,7 @@ IsTrueOf m (reply.Past p) = Unit {0}
 IsTrueOf m (reply.Spent budget) = Unit {0}
 IsTrueOf m replied = ⊥
 
--- a value has a numerator and a denominator of at most 127 bits
+-- if the answer has an optimal value, this has at most 127 bits
 abbrev pub IsNarrowKnown : Known ℚ → Type 0
 IsNarrowKnown (known.Optimal v) = IsNarrow v
 IsNarrowKnown known.Infeasible = Unit {0}

@@ -41,14 +41,15 @@ ghost use Rattle.spec_truth.specs.LoadedFrom.{IsLoadedFrom};
 ghost use Rattle.spec_truth.specs.ModelThen.{model_then};
 ghost use Rattle.spec_truth.specs.TrueAnswer.{Says, IsNarrowKnown};
 
-/// A session holds the model that its requests and replies say.
+/// After a run from the opening state, a session holds the model that its requests and replies say: that of its last
+/// LOAD, as edited since by the edits answered OK. It is none at first and after QUIT.
 pub fn sessions_hold_the_model_then()
     ensures { (places session : ℕ) (xs : List Exchange) (last : State) →
         AloneRun places opening (of_session session xs) last → last.model ≡ model_then session xs }
 {}
 
-/// In each run of sessions, an edit that is answered OK makes of the model that the session has then the model that it
-/// has from then on.
+/// In each run of sessions, an edit that is answered OK is made of the model that the session has before it, and the
+/// session has the edited model right after it.
 pub fn edits_answered_ok_are_made()
     ensures { (places : ℕ) (before behind : List Exchange) (x : Exchange) (e : ExactEdit) →
         RunAlone places (before ++ x ∷ behind) → x.ask ≡ ask.Plain (command.Change e) → x.reply ≡ reply.Done →
@@ -130,15 +131,17 @@ pub fn known_answers_have_their_own_texts()
         RunAlone places (before ++ x ∷ behind) → x.reply ≡ reply.Checked (verdict.Yes what) → IsNarrowKnown what }
 {}
 
-/// Two runs in which a session is asked the same reply alike, but for `HOW`, the lines of certificates, and answers in
-/// place of a refused operation or of a spent budget. So it is whatever each reads.
+/// Two runs from the opening state, with the same requests, have the same replies if memory runs out in neither,
+/// whatever each reads. But those to `HOW` and `CERT` may differ; one may answer where the other is `PAST` or `SPENT`;
+/// and of two exact solves one may be `OPEN`, or their lines behind the first may differ.
 pub fn runs_of_the_same_asks_agree()
     ensures { (places places' : ℕ) (xs ys : List Exchange) (last last' : State) →
         AloneRun places opening xs last → AloneRun places' opening ys last' →
         map (λ x. x.ask) xs ≡ map (λ y. y.ask) ys → HasMemory xs → HasMemory ys → RepliesAgree xs ys }
 {}
 
-/// Where the replies to a wide solve agree, and neither begins with the line `OPEN`, both begin with the same line.
+/// Where two replies to a wide solve are the same or may differ, and neither begins with the line `OPEN`, both begin
+/// with the same line.
 pub fn wide_answers_to_the_same_asks_are_the_same()
     ensures { (line line' : List ℕ) (more more' : List (List ℕ)) →
         IsSameBut (ask.Plain command.Wide) (reply.Wide (line ∷ more)) (reply.Wide (line' ∷ more')) →

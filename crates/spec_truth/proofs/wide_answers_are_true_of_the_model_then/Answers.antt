@@ -11,7 +11,8 @@ use Rattle.spec_truth.proofs.TrueRuns.{wide_then}
 use Rattle.spec_truth.proofs.WideReplies.{IsKnownLine}
 use Rattle.spec_truth.proofs.wide_answers_are_true_of_the_model_then.Goals as goal
 
--- of the model that the session has then
+-- where x's session has model m after the exchanges `before`, a line that is `OPEN` or true of m is `OPEN` or true of
+-- the model that the session has
 of_model : (before : List Exchange) (x : Exchange) (line : List ℕ) (m : Model) → model_then x.session before ≡ Some m →
     IsOpen line ⊎ IsKnownLine m line →
     IsOpen line ⊎ ((m : Model) × (what : Known ℚ) × (model_then x.session before ≡ Some m)
