@@ -23,6 +23,7 @@ use Rattle.spec_serve.proofs.Stays.{look_stays}
 use Rattle.spec_serve.proofs.LeftPlaces.{Plays-split}
 use Rattle.spec_serve.proofs.OwnPart.{own_part, other_part}
 
+-- none of these places is claimed and not done
 abbrev pub NoneClaimed : List ExactPlace → Type 0
 NoneClaimed now = (k owner : ℕ) → place_at now k ≡ Some (place.Claimed owner) → ⊥
 
@@ -66,9 +67,11 @@ claim_done now me k words mine last none j owner at = by (nat_eq k j) refl
         (sym (with_other (now ++ place.Claimed me ∷ []) k j (place.Done words) apart) ∙ at))
 
 module _ (places me : ℕ) where
+  -- these reads, each as one of session `me`
   abbrev log : List ExactRead → List Logged
   log reads = logged me reads
 
+  -- where none of the places is claimed and not done, none is after the reads of a put that the places answer
   put_keeps : (words : List ℕ) (put : Put) (tried : List ExactRead) (now last : List ExactPlace) →
       PutReads places words put tried → Plays places now (log tried) last → NoneClaimed now → NoneClaimed last
   put_keeps words (Full c) tried now last put plays none =

@@ -22,18 +22,22 @@ use Rattle.spec_server.proofs.ScriptBytes.{whole_script, long_script, script_by}
 
 -- ---- what is session 0's
 
+-- the request is one of session 0
 abbrev IsAlone : Asked ExactAsk → Type 0
 IsAlone asked = asked.session ≡ 0
 
+-- each of these requests is one of session 0
 abbrev pub AreAlone : List (Asked ExactAsk) → Type 0
 AreAlone [] = Unit {0}
 AreAlone (asked ∷ asks) = IsAlone asked × AreAlone asks
 
+-- the text or certificate that has begun and not ended, if any, is of session 0
 abbrev IsPendingAlone : Pending → Type 0
 IsPendingAlone Between = Unit {0}
 IsPendingAlone (Text session form body) = session ≡ 0
 IsPendingAlone (Certificate session body) = session ≡ 0
 
+-- the command of a line, if it has one, is for session 0
 abbrev IsLineAlone : Option (Asked ExactCommand) → Type 0
 IsLineAlone None = Unit {0}
 IsLineAlone (Some addressed) = addressed.session ≡ 0

@@ -25,7 +25,7 @@ as_session_run places session old last [] run = run
 as_session_run places session old last (x ∷ xs) run =
     (run.0, run.1, as_session_run places session run.0 last xs run.2)
 
--- a test of sessions takes all exchanges or none, once they are those of one session
+-- of exchanges as those of one session, a test of sessions keeps all, if it holds of that session, and else none
 taken : (p : ℕ → Bool) (session : ℕ) (xs : List Exchange) →
     filter (λ (x : Exchange). p x.session) (as_session session xs) ≡ cond (p session) (as_session session xs) []
 taken p session [] = by (p session)
@@ -53,6 +53,7 @@ not_equal a b other = by (nat_eq a b) refl
 module _ (n : ℕ) where
   -- ---- the exchanges of a worker
 
+  -- the exchanges of a link of worker i are all that worker's
   of_own : (i k : ℕ) (xs : List Exchange) → i < n →
       exchanges_of_worker n i (as_session (session_of_link n i k) xs) ≡ as_session (session_of_link n i k) xs
   of_own i k xs l =
@@ -60,6 +61,7 @@ module _ (n : ℕ) where
       ∙ ap (λ t. cond t (as_session (session_of_link n i k) xs) [])
       (eq-eqb (session_of_link n i k % n) i (mod-mul-add k n i l))
 
+  -- of the exchanges of a link of worker i none is another worker's
   of_other : (i j k : ℕ) (xs : List Exchange) → i < n → i ≢ j →
       exchanges_of_worker n j (as_session (session_of_link n i k) xs) ≡ []
   of_other i j k xs l other =
@@ -67,6 +69,7 @@ module _ (n : ℕ) where
       ∙ ap (λ t. cond t (as_session (session_of_link n i k) xs) [])
       (not_equal (session_of_link n i k % n) j (λ e. other (sym (mod-mul-add k n i l) ∙ e)))
 
+  -- the exchanges of worker i's links are all that worker's
   links_own : (i k : ℕ) (links : List (List Exchange)) → i < n →
       exchanges_of_worker n i (exchanges_of_links n i k links) ≡ exchanges_of_links n i k links
   links_own i k [] l = refl
@@ -76,6 +79,7 @@ module _ (n : ℕ) where
       ∙ ap (λ ys. ys ++ exchanges_of_worker n i (exchanges_of_links n i (suc k) links)) (of_own i k xs l)
       ∙ ap (λ ys. as_session (session_of_link n i k) xs ++ ys) (links_own i (suc k) links l)
 
+  -- of the exchanges of worker i's links none is another worker's
   links_other : (i j k : ℕ) (links : List (List Exchange)) → i < n → i ≢ j →
       exchanges_of_worker n j (exchanges_of_links n i k links) ≡ []
   links_other i j k [] l other = refl
@@ -85,6 +89,7 @@ module _ (n : ℕ) where
       ∙ ap (λ ys. ys ++ exchanges_of_worker n j (exchanges_of_links n i (suc k) links)) (of_other i j k xs l other)
       ∙ links_other i j (suc k) links l other
 
+  -- of the exchanges of workers from a number on none is a worker's of a lower number
   from_other : (j from : ℕ) (all : List (List (List Exchange))) → from + length all ≤ n → j < from →
       exchanges_of_worker n j (exchanges_from n from all) ≡ []
   from_other j from [] within before = refl
@@ -95,6 +100,8 @@ module _ (n : ℕ) where
       (links_other from j 0 links (omega (arith, within)) (λ e. omega (arith, e, before)))
       ∙ from_other j (suc from) all (omega (arith, within)) (omega (arith, before))
 
+  -- of the exchanges of workers from a number on, those of the worker that stands i places behind the first are those
+  -- of its links
   from_own : (i from : ℕ) (all : List (List (List Exchange))) → from + length all ≤ n → i < length all →
       exchanges_of_worker n (i + from) (exchanges_from n from all)
       ≡ exchanges_of_links n (i + from) 0 (get_or all i [])
@@ -120,6 +127,7 @@ module _ (n : ℕ) where
       ≡ exchanges_of_links n j 0 (get_or all i [])) (let e : i + suc from ≡ suc i + from = omega arith in e)
       (from_own i (suc from) all (omega (arith, within)) (omega (arith, l)))
 
+  -- of the exchanges of all workers, those of worker i are those of its links, each link as its own session
   pub worker_has_own : (i : ℕ) (all : List (List (List Exchange))) → length all ≡ n → i < n →
       exchanges_of_worker n i (exchanges_from n 0 all) ≡ exchanges_of_links n i 0 (get_or all i [])
   worker_has_own i all many l =
@@ -129,9 +137,11 @@ module _ (n : ℕ) where
   -- ---- the exchanges of a session
 
   module _ (i : ℕ) (some : 0 < n) where
+    -- the session of a worker's next link has a greater number
     next_later : (k : ℕ) → session_of_link n i k < session_of_link n i (suc k)
     next_later k = omega (arith, some)
 
+    -- a session with a number below that of link k has no exchanges of worker i's links from k on
     later_none : (session k : ℕ) (links : List (List Exchange)) → session < session_of_link n i k →
         of_session session (exchanges_of_links n i k links) ≡ []
     later_none session k [] l = refl
@@ -146,12 +156,16 @@ module _ (n : ℕ) where
 
     -- the first link and those after it, as one session has them
     module _ (session k : ℕ) (xs : List Exchange) (links : List (List Exchange)) where
+      -- the number of the session that stands for link k of worker i
       abbrev first : ℕ
       first = session_of_link n i k
 
+      -- what the session has of the links behind link k
       abbrev later : List Exchange
       later = of_session session (exchanges_of_links n i (suc k) links)
 
+      -- what a session has of the links from k on is link k's exchanges, if it is that link's session, and what it has
+      -- of the later links
       split : (t : Bool) → nat_eq first session ≡ t →
           of_session session (exchanges_of_links n i k (xs ∷ links)) ≡ cond t (as_session first xs) [] ++ later
       split t e =
@@ -160,6 +174,7 @@ module _ (n : ℕ) where
           ∙ ap (λ ys. ys ++ later)
           (taken (λ s. nat_eq s session) first xs ∙ ap (λ t. cond t (as_session first xs) []) e)
 
+      -- what the session of link k has of the links from k on is the exchanges of link k
       is_first : nat_eq first session ≡ true →
           of_session session (exchanges_of_links n i k (xs ∷ links)) ≡ as_session first xs
       is_first e =
@@ -170,16 +185,20 @@ module _ (n : ℕ) where
           let h = next_later k in omega (arith, h, here)))
           ∙ append-nil (as_session first xs)
 
+      -- these exchanges are a run of the one-session machine from its opening state
       abbrev RunsIn : ℕ → List Exchange → Type 0
       RunsIn places ys = (last : State) × AloneRun places opening ys last
 
+      -- where link k is a run, and so is what a session has of the later links, so is what it has of the links from k
+      -- on
       one_more : (places : ℕ) (t : Bool) → nat_eq first session ≡ t → RunsIn places xs → RunsIn places later →
           RunsIn places (of_session session (exchanges_of_links n i k (xs ∷ links)))
       one_more places true e own rest =
           subst (RunsIn places) (sym (is_first e)) (own.0, as_session_run places first opening own.0 xs own.1)
       one_more places false e own rest = subst (RunsIn places) (sym (split false e)) rest
 
-    -- each link is a session of its own
+    -- where the exchanges of each link are a run from the opening state, each session runs alone in those of worker i's
+    -- links, each link as its own session
     pub links_run_alone : (places k : ℕ) (links : List (List Exchange)) →
         AllByRecursion (λ xs. (last : State) × AloneRun places opening xs last) links →
         RunAlone places (exchanges_of_links n i k links)
@@ -190,6 +209,7 @@ module _ (n : ℕ) where
 
   -- ---- the reads
 
+  -- the reads of the links' exchanges as sessions are those of the links, one link after the other
   pub links_reads : (i k : ℕ) (links : List (List Exchange)) →
       reads_in_all (exchanges_of_links n i k links) ≡ flat_map reads_in_all links
   links_reads i k [] = refl
@@ -200,6 +220,7 @@ module _ (n : ℕ) where
       (as_session_reads (session_of_link n i k) xs)
       ∙ ap (λ rs. reads_in_all xs ++ rs) (links_reads i (suc k) links)
 
+  -- the reads of the exchanges of all workers are those of their links, one worker after the other
   pub all_reads : (from : ℕ) (all : List (List (List Exchange))) →
       reads_in_all (exchanges_from n from all) ≡ flat_map (flat_map reads_in_all) all
   all_reads from [] = refl

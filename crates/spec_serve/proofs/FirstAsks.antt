@@ -14,6 +14,7 @@ use Rattle.spec_server.specs.Streams.{Streams}
 use Rattle.spec_serve.specs.Link.{is_quit, up_to_quit, ended_link_asks_of, link_asks_of, AreFirstOf, HoldsOfAll}
 use Rattle.spec_serve.specs.Link.{LinkMoves}
 
+-- a list of requests, each with its session
 abbrev pub Asks : Type 0
 Asks = List (Asked ExactAsk)
 

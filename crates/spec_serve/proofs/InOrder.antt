@@ -15,19 +15,21 @@ use Rattle.spec_serve.proofs.LeftPlaces.{answers_grow}
 
 -- ---- what a later read is, once so many places are claimed
 
--- a count gives so many at least
+-- the read's count of claimed places, if it is a count or a lost claim, is n at least
 abbrev IsFrom : ℕ → ExactRead → Type 0
 IsFrom n (Count c) = n ≤ c
 IsFrom n (Lost c) = n ≤ c
 IsFrom n other = Unit {0}
 
--- a place that is done is below each count, read as done, and not tried
+-- A read that fits that place k was done before: a count is above k, and place k is neither read as not done nor
+-- published again.
 abbrev RespectsDone : ℕ → ExactRead → Type 0
 RespectsDone k (Count c) = k < c
 RespectsDone k (NotDone j) = k ≡ j → ⊥
 RespectsDone k (Done j words) = k ≡ j → ⊥
 RespectsDone k other = Unit {0}
 
+-- P holds of each read of this log
 abbrev HoldsOf : (ExactRead → Type 0) → List Logged → Type 0
 HoldsOf P log = AllByRecursion (λ (x : Logged). P x.read) log
 
@@ -156,6 +158,7 @@ later_in_order places session now next last (Claim k) log a p = trivially log
 
 -- ---- the sessions of one worker
 
+-- the reads of a log that were made for the sessions that one worker serves, in order
 abbrev pub served : (ℕ → Bool) → List Logged → List ExactRead
 served serves log = map (λ (x : Logged). x.read) (filter (λ x. serves x.session) log)
 
@@ -196,6 +199,7 @@ other_place k (NotDone j) h more rest = rest
 other_place k (Seen j words) h more rest = rest
 other_place k (Claim j) h more rest = rest
 
+-- the places that the reads of a log published, in order
 abbrev pub published : List Logged → List ℕ
 published log = flat_map (λ (x : Logged). published_by x.read) log
 

@@ -12,7 +12,7 @@ use Rattle.spec_serve.specs.Workers.{HasServedAlone, ManyFits, logs_of}
 module _ (workers : ℕ) where
   -- ---- the exchanges in one order
 
-  -- the worker's next exchange, and those after it
+  -- the exchanges xs begin with one of request a, and the rest are of the requests `asks`
   record Next (a : Asked ExactAsk) (asks : List (Asked ExactAsk)) (xs : List Exchange) : Type 0 where
     first : Exchange
     rest : List Exchange
@@ -20,6 +20,8 @@ module _ (workers : ℕ) where
     is_first : asked_in first ≡ a
     are_rest : map asked_in rest ≡ asks
 
+  -- a list of exchanges whose requests are a and others has a first exchange, of request a, and then those of the
+  -- others
   next_of : (a : Asked ExactAsk) (asks : List (Asked ExactAsk)) (xs : List Exchange) → map asked_in xs ≡ a ∷ asks →
       Next a asks xs
   next_of a asks [] e = cc
@@ -31,15 +33,17 @@ module _ (workers : ℕ) where
     are_rest = let f : map asked_in xs ≡ asks = cc in f;
   }
 
-  -- what workers had, less the next exchange of this one
+  -- what workers had, but for this worker: it has the exchanges `rest`
   abbrev less : (ℕ → List Exchange) → ℕ → List Exchange → ℕ → List Exchange
   less had worker rest other = cond (nat_eq worker other) rest (had other)
 
   module _ (a : Asked ExactAsk) (asks : List (Asked ExactAsk)) (had : ℕ → List Exchange)
       (are : (worker : ℕ) → map asked_in (had worker) ≡ asks_of_worker workers worker (a ∷ asks)) where
+    -- the number of the worker that serves the session of request a
     abbrev own : ℕ
     own = a.session % workers
 
+    -- what the worker of request a had begins with an exchange of it
     own_next : Next a (asks_of_worker workers own asks) (had own)
     own_next =
         next_of a (asks_of_worker workers own asks) (had own)
@@ -47,9 +51,11 @@ module _ (workers : ℕ) where
         (λ t. map asked_in (had own) ≡ cond t (a ∷ asks_of_worker workers own asks) (asks_of_worker workers own asks))
         (eq-eqb own own refl) (are own))
 
+    -- what the workers had, less the exchange of request a
     abbrev left : ℕ → List Exchange
     left = less had own own_next.rest
 
+    -- less the exchange of request a, what each worker had is of its own among the other requests
     left_are : (worker : ℕ) → map asked_in (left worker) ≡ asks_of_worker workers worker asks
     left_are worker = by (nat_eq own worker) refl
       where
@@ -65,6 +71,8 @@ module _ (workers : ℕ) where
             ≡ cond t (a ∷ asks_of_worker workers worker asks) (asks_of_worker workers worker asks))
             e (are worker)
 
+    -- where what is left of the workers' exchanges stands in one order, with the exchange of request a in front each
+    -- worker's part is what it had
     parts_more : (rest : Interleaves workers asks left) → (worker : ℕ) →
         exchanges_of_worker workers worker (own_next.first ∷ rest.exchanges) ≡ had worker
     parts_more rest worker = by (nat_eq own worker) refl
@@ -91,6 +99,7 @@ module _ (workers : ℕ) where
             (λ b. cond b (own_next.first ∷ cond b own_next.rest (had worker)) (cond b own_next.rest (had worker))) e
             ∙ so t e
 
+  -- where each worker had exchanges of its own requests, these can stand in the order of all requests
   pub interleaved : (asks : List (Asked ExactAsk)) (had : ℕ → List Exchange) →
       ((worker : ℕ) → map asked_in (had worker) ≡ asks_of_worker workers worker asks) → Interleaves workers asks had
   interleaved [] had are =
@@ -110,7 +119,7 @@ module _ (workers : ℕ) where
 
   -- ---- they are a run of many
 
-  -- a session's exchanges are those of its worker
+  -- with one more exchange in front, the exchanges of a session among its worker's are those among all
   own_more : (session : ℕ) (x : Exchange) (xs : List Exchange) (t : Bool) →
       nat_eq (x.session % workers) (session % workers) ≡ t →
       of_session session (exchanges_of_worker workers (session % workers) xs) ≡ of_session session xs →
@@ -132,12 +141,14 @@ module _ (workers : ℕ) where
           cc)
       by false f = more
 
+  -- the exchanges of a session among its worker's are those among all
   own_session : (session : ℕ) (xs : List Exchange) →
       of_session session (exchanges_of_worker workers (session % workers) xs) ≡ of_session session xs
   own_session session [] = refl
   own_session session (x ∷ xs) =
       own_more session x xs (nat_eq (x.session % workers) (session % workers)) refl (own_session session xs)
 
+  -- with one more exchange in front, or not, the reads of a worker's exchanges are its reads
   reads_more : (worker : ℕ) (x : Exchange) (xs : List Exchange) (t : Bool) →
       reads_in_all (exchanges_of_worker workers worker xs) ≡ reads_of_worker workers worker xs →
       reads_in_all (cond t (x ∷ exchanges_of_worker workers worker xs) (exchanges_of_worker workers worker xs))
@@ -145,12 +156,15 @@ module _ (workers : ℕ) where
   reads_more worker x xs true more = ap (λ rs. x.reads ++ rs) more
   reads_more worker x xs false more = more
 
+  -- the reads of a worker's exchanges are the reads of that worker
   reads_of_its_own : (worker : ℕ) (xs : List Exchange) →
       reads_in_all (exchanges_of_worker workers worker xs) ≡ reads_of_worker workers worker xs
   reads_of_its_own worker [] = refl
   reads_of_its_own worker (x ∷ xs) =
       reads_more worker x xs (nat_eq (x.session % workers) worker) (reads_of_its_own worker xs)
 
+  -- where each worker served its own alone, and all reads are backed and have one order, many workers may have had the
+  -- exchanges
   pub many_fit : (places : ℕ) (xs : List Exchange) → ((session : ℕ) → session % workers < workers) →
       ((worker : ℕ) → worker < workers → HasServedAlone places (exchanges_of_worker workers worker xs)) →
       AreBacked (reads_in_all xs) → HaveOneOrder places workers (logs_of workers xs) → ManyFits places workers xs

@@ -18,6 +18,8 @@ use Rattle.spec_server.proofs.ScriptKept.{ended_kept, script_kept}
 use Rattle.spec_serve.specs.Link.{ended_link_asks_of, link_asks_of, AreFirstOf, LinkMoves}
 use Rattle.spec_serve.proofs.FirstAsks.{Asks, link_asks_first, ended_link_asks_first, served_script}
 
+-- the model that the request loads is a usual one, or its edit's numbers may be kept; of other requests nothing is
+-- asked
 abbrev IsKept : Asked ExactAsk → Type 0
 IsKept a = IsKeptAsk a.ask
 

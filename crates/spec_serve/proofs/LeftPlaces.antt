@@ -25,6 +25,7 @@ place_some (p ∷ ps) (suc k) h = place_some ps k (omega arith)
 -- ---- reads
 
 module _ (places : ℕ) (session : ℕ) where
+  -- a read that the places answer leaves at least as many claimed as before
   pub answers_grow : (now next : List ExactPlace) (r : ExactRead) → Answers places now session r next →
       length now ≤ length next
   answers_grow now next (read.Count c) a = let e : length next ≡ length now = ap length a.1 in omega arith
@@ -36,6 +37,7 @@ module _ (places : ℕ) (session : ℕ) where
   answers_grow now next (read.Done j words) a = let e : length next ≡ length now =
       ap length a.1 ∙ length_with now j (Done words) in omega arith
 
+  -- a read that the places answer leaves at most all claimed, if at most all were claimed before
   pub answers_bounded : (now next : List ExactPlace) (r : ExactRead) → Answers places now session r next →
       length now ≤ places → length next ≤ places
   answers_bounded now next (read.Count c) a h = let e : length next ≡ length now = ap length a.1 in omega arith
@@ -48,7 +50,7 @@ module _ (places : ℕ) (session : ℕ) where
   answers_bounded now next (read.Done j words) a h = let e : length next ≡ length now =
       ap length a.1 ∙ length_with now j (Done words) in omega arith
 
-  -- what is done was done before, or is done now
+  -- a place that is done after a read was done before with the same words, or the read published it
   pub answers_before : (now next : List ExactPlace) (r : ExactRead) (k : ℕ) (words : List ℕ) →
       Answers places now session r next → place_at next k ≡ Some (Done words) →
       (place_at now k ≡ Some (Done words)) ⊎ (r ≡ read.Done k words)

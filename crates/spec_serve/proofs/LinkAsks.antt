@@ -1,9 +1,9 @@
 -- What a link asks, by the lines that were read of it.
 --
--- `begins_whole`: the requests of all lines that were read are the first of the bytes' requests, where no more bytes
---   come.
+-- `begins_whole`: the requests of all lines of at most 2 ^ 26 bytes are the first of the bytes' requests, where no more
+--   bytes come.
 -- `first_asks`: where the first requests of the bytes have no `QUIT`, they are the first of the link's requests.
--- `asks_at_end`: where no line that was read is `QUIT`, the link's requests are those of all its lines.
+-- `asks_at_end`: where no line of at most 2 ^ 26 bytes asks `QUIT`, the link's requests are those of all its lines.
 -- `asks_past`: where more is read than may be and no ended line is `QUIT`, the link's requests are those of its ended
 --   lines.
 -- `ended_asks`: where no ended line is `QUIT`, the requests of these lines are those of the link's ended lines.
@@ -26,11 +26,13 @@ use Rattle.spec_serve.specs.Link.{AreFirstOf}
 use Rattle.spec_serve.proofs.UpToQuit.{up_to_quit_none, until_quit_none, first_before_quit, first_with_last}
 use Rattle.spec_serve.proofs.UpToQuit.{until_quit_last}
 
+-- the requests that these lines make, which name no session, from between two commands on
 abbrev pub asks_of_lines : List (Line (List ℕ)) → List (Asked ExactAsk)
 asks_of_lines lines = asks_from Alone Between lines
 
 -- ---- the first asks of all
 
+-- the requests of these bytes, read as a script whose lines name no session, begin with these requests
 pub record AsksBegin (asks : List (Asked ExactAsk)) (bytes : List ℕ) : Type 0 where
   pub rest : List (Asked ExactAsk)
   pub ending : Ending
@@ -50,9 +52,11 @@ begins_whole read lines all within = record {
 module _ (raw : List ℕ) (lines : List (Line (List ℕ))) (within : length raw ≤ 2 ^ 26)
     (all : (more : List ℕ) → lines_of (raw ++ more) ≡ lines ++ lines_of more)
     (ended : (more : List ℕ) → ended_lines_of (raw ++ more) ≡ lines ++ ended_lines_of more) where
+  -- the requests that more lines make behind the lines that were read
   after_lines : List (Line (List ℕ)) → List (Asked ExactAsk)
   after_lines more = asks_from Alone (pending_after Alone Between lines) more
 
+  -- where more bytes follow, past the limit on bytes, the requests of the lines that were read come first
   begins_long : (more : List ℕ) → 2 ^ 26 < length (raw ++ more) → AsksBegin (asks_of_lines lines) (raw ++ more)
   unfolding after_lines ended_asks_of
   begins_long more past =
@@ -71,6 +75,7 @@ module _ (raw : List ℕ) (lines : List (Line (List ℕ))) (within : length raw 
             (asks_from-append Alone Between lines (ended_lines_of (take n more)));
       }
 
+  -- where more bytes follow, within the limit on bytes, the requests of the lines that were read come first
   begins_short : (more : List ℕ) → length (raw ++ more) ≤ 2 ^ 26 → AsksBegin (asks_of_lines lines) (raw ++ more)
   unfolding after_lines
   begins_short more short =
@@ -82,6 +87,7 @@ module _ (raw : List ℕ) (lines : List (Line (List ℕ))) (within : length raw 
             (ap asks_of_lines (all more) ∙ asks_from-append Alone Between lines (lines_of more));
       }
 
+  -- whatever bytes follow those that were read, the requests of the lines that were read come first
   pub begins_part : (more : List ℕ) → AsksBegin (asks_of_lines lines) (raw ++ more)
   begins_part more = ⊎_elim (begins_long more) (begins_short more) (cases_lt (2 ^ 26) (length (raw ++ more)))
 
@@ -107,10 +113,11 @@ first_asks {asks} b none = as_first b (first_before_quit asks b.rest none)
 -- the last of them alone may be
 module _ (front : List (Asked ExactAsk)) (last : Asked ExactAsk) (none : quits front ≡ false) {bytes : List ℕ}
     (b : AsksBegin (front ++ last ∷ []) bytes) where
+  -- where all but the last of the first requests are no `QUIT`, they are the first of the link's requests
   pub first_asks_with : AreFirstOf (front ++ last ∷ []) (link_asks_of bytes).asks
   first_asks_with = as_first b (first_with_last front last none b.rest)
 
-  -- and is
+  -- where the last of the first requests is `QUIT`, and no other is, they are all that the link asks, and it has ended
   pub asks_to_quit : is_quit last.ask ≡ true →
       link_asks_of bytes ≡ record { asks = front ++ last ∷ []; ending = Ended }
   asks_to_quit is = link_asks b ∙ until_quit_last front last none b.rest b.ending is

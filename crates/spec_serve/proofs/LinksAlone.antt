@@ -61,9 +61,12 @@ links_run places s exchanges moves =
 
 -- ---- a service of all that bytes ask, with memory enough
 
+-- the streams of a service that reads all these bytes and writes all replies of these exchanges
 abbrev whole : List ℕ → List Exchange → Streams
 whole bytes exchanges = streams (Some bytes) (Some []) (Some []) (Some (link_out exchanges))
 
+-- there is a service that reads all these bytes, has an exchange of each request of theirs, none of which runs out of
+-- memory, and writes all replies
 abbrev pub IsServed : ℕ → List ℕ → Type 0
 IsServed places bytes =
     (exchanges : List Exchange) × (end : LinkEnd) × ServesLink places (whole bytes exchanges) exchanges end
@@ -71,21 +74,26 @@ IsServed places bytes =
     × (filter (λ x. is_memory x.reply) exchanges ≡ [])
 
 module _ (places : ℕ) (bytes : List ℕ) where
+  -- what the bytes ask as those of a link
   abbrev asks : Asks
   asks = (link_asks_of bytes).asks
 
+  -- exchanges of all that the bytes ask, with memory enough
   exchanges : List Exchange
   exchanges = answered places (λ _. opening) asks
 
+  -- the exchanges are of all that the bytes ask
   asked : map asked_in exchanges ≡ asks
   unfolding exchanges
   asked = asked_in-answered places (λ _. opening) asks
 
+  -- the requests of the exchanges are of session 0
   alone : AreAlone (map asked_in exchanges)
   alone =
       subst AreAlone (sym asked)
       (first_alone asks (script_of Alone bytes).asks (link_asks_first bytes) (script_alone bytes))
 
+  -- the exchanges are a run from the opening state
   run : (last : State) × AloneRun places opening exchanges last
   unfolding exchanges
   run =
@@ -94,6 +102,7 @@ module _ (places : ℕ) (bytes : List ℕ) where
         subst (λ (ys : List Exchange). AloneRun places opening ys first.0) (of_first_session exchanges alone) first.1,
       )
 
+  -- a service that reads all bytes and writes all replies has these exchanges
   moves : LinkMoves places (whole bytes exchanges) exchanges
   moves = record {
     read = bytes;
@@ -106,18 +115,22 @@ module _ (places : ℕ) (bytes : List ℕ) where
     front = ([], append-nil (link_out exchanges));
   }
 
+  -- in none of the exchanges memory runs out
   memory : filter (λ x. is_memory x.reply) exchanges ≡ []
   unfolding exchanges
   memory = ample_answers places (λ _. opening) asks
 
+  -- the script of the requests of the exchanges that ends so
   abbrev with_ending : Ending → Script
   with_ending ending = record { asks = map asked_in exchanges; ending = ending }
 
+  -- where the link's script ends so, it is that of the requests of the exchanges
   all_asked : (ending : Ending) → (link_asks_of bytes).ending ≡ ending → link_asks_of bytes ≡ with_ending ending
   all_asked ending e =
       ap (λ (zs : Asks). let s : Script = record { asks = zs; ending = (link_asks_of bytes).ending } in s) (sym asked)
       ∙ ap with_ending e
 
+  -- however the link's script ends, there is a service of all that the bytes ask
   served : (ending : Ending) → (link_asks_of bytes).ending ≡ ending → IsServed places bytes
   unfolding moves
   served Ended e =
@@ -127,5 +140,6 @@ module _ (places : ℕ) (bytes : List ℕ) where
   served Over e =
       (exchanges, end.Over, (moves, record { asked = inl (refl, all_asked Over e); whole = refl }), asked, memory)
 
+  -- whatever bytes a link sends, there is a service that answers all their requests with memory enough
   pub is_served : IsServed places bytes
   is_served = served (link_asks_of bytes).ending refl

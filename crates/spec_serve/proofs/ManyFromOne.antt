@@ -23,6 +23,7 @@ use Rattle.spec_serve.proofs.AllDone.{NoneClaimed, all_done}
 
 -- ---- the log of exchanges
 
+-- the reads of a log, without their sessions
 abbrev pub reads_in : List Logged → List ExactRead
 reads_in log = map (λ (x : Logged). x.read) log
 
@@ -128,7 +129,7 @@ here r rs = Contains-append_left (r ∷ []) rs r (zero, omega arith, refl)
 later : (r q : ExactRead) (rs : List ExactRead) → Contains rs q → Contains (r ∷ rs) q
 later r q rs h = Contains-append_right (r ∷ []) rs q h
 
--- each place that is done was published
+-- for each place that is done, `all` has the read that published it with its words
 abbrev ArePublished : List ExactRead → List ExactPlace → Type 0
 ArePublished all now = (k : ℕ) (words : List ℕ) → place_at now k ≡ Some (place.Done words) → Contains all (Done k words)
 

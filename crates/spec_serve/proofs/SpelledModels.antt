@@ -1,7 +1,7 @@
 -- The models that a link asks to hold are spelled by its lines.
 --
--- `link_ended`: a model that an ended line of a link asks to hold is spelled by the lines before it.
--- `link_whole`: a model that a link of at most 2 ^ 26 bytes asks to hold is spelled by its lines.
+-- `link_ended`: a model that the ended lines of a link ask to hold is spelled by the ones behind a LOAD.
+-- `link_whole`: a model that a link of at most 2 ^ 26 bytes asks to hold is spelled by its lines behind a LOAD.
 use Rattle.std.proofs.Common.{◌≡◌, ℕ, ◌≤◌, ◌<◌, List, ◌∷◌, ◌++◌, length, take, map, sym, ap, ◌∙◌, append_assoc}
 use Rattle.std.proofs.lemmas.List.{map-append}
 use Rattle.spec_text.specs.Lines.{lines_of, ended_lines_of, input_limit}
@@ -18,7 +18,7 @@ use Rattle.spec_truth.proofs.LoadedLines.{loaded, loaded_from_ended, loaded_from
 use Rattle.spec_serve.specs.Link.{ended_link_asks_of, link_asks_of, AreFirstOf, LinkMoves}
 use Rattle.spec_serve.proofs.FirstAsks.{Asks, link_asks_first, ended_link_asks_first, served_script}
 
--- an ask among the first is one among all
+-- among all requests the request that this session hold m stands right behind the requests `before`
 record IsAmong (all before : Asks) (session : ℕ) (m : Model) : Type 0 where
   behind : Asks
   is : all ≡ before ++ loaded session m ∷ behind
@@ -54,6 +54,8 @@ link_whole bytes before behind session m h e =
 
 module _ (places : ℕ) (s : Streams) (before behind : List Exchange) (x : Exchange) (m : Model)
     (moves : LinkMoves places s (before ++ x ∷ behind)) (is : x.ask ≡ ask.Loaded m) where
+  -- the model that an exchange of a service loads is loaded among all requests of the bytes that were read, behind
+  -- those of the exchanges before
   served_among : IsAmong (script_of Alone moves.read).asks (map asked_in before) x.session m
   served_among =
       among (map asked_in (before ++ x ∷ behind)) (script_of Alone moves.read).asks (map asked_in before)
@@ -61,11 +63,15 @@ module _ (places : ℕ) (s : Streams) (before behind : List Exchange) (x : Excha
       (map-append asked_in before (x ∷ behind)
       ∙ ap (λ (a : ExactAsk). map asked_in before ++ record { session = x.session; ask = a } ∷ map asked_in behind) is)
 
+  -- where a service read no more bytes than the limit, a model that it was asked to load is spelled by the lines of
+  -- these bytes
   pub served_whole : length moves.read ≤ input_limit →
       IsLoadedFrom Alone (lines_of moves.read) (map asked_in before) x.session m
   served_whole h =
       loaded_from_whole Alone moves.read (map asked_in before) served_among.behind x.session m h served_among.is
 
+  -- where a service read more bytes than the limit, a model that it was asked to load is spelled by the lines that end
+  -- within it
   pub served_ended : input_limit < length moves.read →
       IsLoadedFrom Alone (ended_lines_of (take input_limit moves.read)) (map asked_in before) x.session m
   served_ended h =

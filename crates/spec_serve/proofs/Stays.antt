@@ -5,9 +5,12 @@ use Rattle.spec_board.specs.Reads.{ExactRead, Looked, has_shape, SeenBy, SeesDow
 use Rattle.spec_board.specs.Places.{ExactPlace, Logged, Plays, logged}
 
 module _ (places me : ℕ) where
+  -- these reads, each as one of session `me`
   abbrev log : List ExactRead → List Logged
   log reads = logged me reads
 
+  -- where the reads behind the read of a done place in a look leave the places as they are, so do the reads from that
+  -- one on
   seen_stays : (shape : List ℕ) (k : ℕ) (words : List ℕ) (rest : List ExactRead) (found : Looked)
       (now last : List ExactPlace) (t : Bool) → (SeesDown shape k rest found → last ≡ now) →
       SeenBy t k words rest found (SeesDown shape k rest found) → Plays places now (log rest) last → last ≡ now
@@ -15,7 +18,7 @@ module _ (places me : ℕ) where
       subst (λ rs. Plays places now (log rs) last) b.1 plays
   seen_stays shape k words rest found now last false more b plays = more b.1
 
-  -- reads of a look leave the places
+  -- reads of a look from place k down, which the places answer, leave them as they are
   pub sees_stay : (shape : List ℕ) (k : ℕ) (rest : List ExactRead) (found : Looked) (now last : List ExactPlace) →
       SeesDown shape k rest found → Plays places now (log rest) last → last ≡ now
   sees_stay shape zero rest found now last d plays = subst (λ rs. Plays places now (log rs) last) d.0 plays
@@ -30,6 +33,7 @@ module _ (places me : ℕ) where
   sees_stay shape (suc k) (read.Lost c ∷ rest) found now last d plays = absurd d
   sees_stay shape (suc k) (read.Done j words ∷ rest) found now last d plays = absurd d
 
+  -- a look that the places answer leaves them as they are
   pub look_stays : (shape : List ℕ) (looked : List ExactRead) (found : Looked) (now last : List ExactPlace) →
       LookReads shape looked found → Plays places now (log looked) last → last ≡ now
   look_stays shape looked found now last l plays =

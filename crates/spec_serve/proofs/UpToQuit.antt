@@ -23,7 +23,7 @@ first_by false u a xs ys none more = ap (λ (zs : List (Asked ExactAsk)). a ∷ 
 -- ---- asks among which is no QUIT
 
 module _ (rest : List (Asked ExactAsk)) where
-  -- with others after them
+  -- where no request in front is `QUIT`, those up to the first `QUIT` are all in front and then those of the rest
   up_to_quit_past : (front : List (Asked ExactAsk)) → quits front ≡ false →
       up_to_quit (front ++ rest) ≡ front ++ up_to_quit rest
   up_to_quit_past [] none = refl
@@ -31,6 +31,7 @@ module _ (rest : List (Asked ExactAsk)) where
       first_by (is_quit a.ask) (quits front) a (up_to_quit (front ++ rest)) (front ++ up_to_quit rest) none
       (up_to_quit_past front)
 
+  -- where no request in front is `QUIT`, one of all is exactly where one of the rest is
   quits_past : (front : List (Asked ExactAsk)) → quits front ≡ false → quits (front ++ rest) ≡ quits rest
   quits_past front none =
       list_any-append (λ (a : Asked ExactAsk). is_quit a.ask) front rest ∙ ap (λ (t : Bool). t || quits rest) none
@@ -53,6 +54,8 @@ first_before_quit asks rest none = (up_to_quit rest, up_to_quit_past rest asks n
 
 -- ---- asks of which the last one alone may be QUIT
 module _ (front : List (Asked ExactAsk)) (last : Asked ExactAsk) (none : quits front ≡ false) where
+  -- where all but the last of some requests are no `QUIT`, they are the first of those up to the first `QUIT`, whatever
+  -- follows them
   pub first_with_last : (rest : List (Asked ExactAsk)) →
       AreFirstOf (front ++ last ∷ []) (up_to_quit ((front ++ last ∷ []) ++ rest))
   first_with_last rest = (
@@ -62,10 +65,12 @@ module _ (front : List (Asked ExactAsk)) (last : Asked ExactAsk) (none : quits f
         ∙ sym (append_assoc front (last ∷ []) (cond (is_quit last.ask) [] (up_to_quit rest))),
   )
 
+  -- where no request in front is `QUIT`, and the last is none, none of all is
   pub quits_not : is_quit last.ask ≡ false → quits (front ++ last ∷ []) ≡ false
   quits_not other = quits_past (last ∷ []) front none ∙ ap (λ (t : Bool). t || false) other
 
-  -- it is QUIT: whatever comes after it, these are all, and the link has ended
+  -- where the last of some requests is `QUIT`, and no other is, they are the script up to its first `QUIT`, whatever
+  -- follows, and it has ended
   pub until_quit_last : (rest : List (Asked ExactAsk)) (ending : Ending) → is_quit last.ask ≡ true →
       until_quit (record { asks = (front ++ last ∷ []) ++ rest; ending = ending })
       ≡ record { asks = front ++ last ∷ []; ending = Ended }

@@ -8,7 +8,7 @@ use Rattle.spec_truth.specs.Agree.{HasMemory, RepliesAgree}
 use Rattle.spec_truth.proofs.Agreement.{runs_agree}
 use Rattle.spec_serve.specs.Workers.{RunsBy}
 
--- what a session is asked
+-- the requests of this session among those of all, in order
 abbrev asks_of : ℕ → List (Asked ExactAsk) → List ExactAsk
 asks_of session asks =
     map (λ (a : Asked ExactAsk). a.ask) (filter (λ (a : Asked ExactAsk). nat_eq a.session session) asks)

@@ -27,12 +27,13 @@ is_quit other = false
 abbrev pub quits : List (Asked ExactAsk) → Bool
 quits asks = list_any (λ asked. is_quit asked.ask) asks
 
--- the requests up to the first QUIT, which is one of them
+-- the requests up to the first QUIT, which is one of them; all where there is no QUIT
 abbrev pub up_to_quit : List (Asked ExactAsk) → List (Asked ExactAsk)
 up_to_quit [] = []
 up_to_quit (asked ∷ asks) = asked ∷ (if is_quit asked.ask then [] else up_to_quit asks)
 
--- a link that has said QUIT has ended
+-- a link's requests up to the first QUIT, behind which it has ended; without a QUIT all of them,
+-- and the script's own end
 abbrev pub until_quit : Script → Script
 until_quit s = record { asks = up_to_quit s.asks; ending = if quits s.asks then Ended else s.ending }
 
@@ -40,13 +41,14 @@ until_quit s = record { asks = up_to_quit s.asks; ending = if quits s.asks then 
 unfoldable pub ended_link_asks_of : List ℕ → List (Asked ExactAsk)
 ended_link_asks_of bytes = up_to_quit (ended_asks_of Alone bytes)
 
--- the requests of a link up to QUIT in all lines of these bytes, and how they end
+-- the requests of a link up to QUIT in the lines of these bytes, and how they end. Past the limit on bytes, only lines
+-- that end within it count
 unfoldable pub link_asks_of : List ℕ → Script
 link_asks_of bytes = until_quit (script_of Alone bytes)
 
 -- ---- what is written
 
--- the lines that a link writes as the replies of its exchanges
+-- the bytes that are written to a link: its exchanges' replies in order, without the session's number
 abbrev pub link_out : List Exchange → List ℕ
 link_out xs = flat_map (λ x. reply_lines Alone x.session x.reply) xs
 
@@ -61,8 +63,8 @@ AreFirstOf {X} first all = (more : List X) × (all ≡ first ++ more)
 abbrev pub HoldsOfAll : Option (List ℕ) → List ℕ → (List ℕ → Type 0) → Type 0
 HoldsOfAll after read P = (IsAtEnd after × P read) ⊎ ((more : List ℕ) → P (read ++ more))
 
--- The bytes that were read; the exchanges of the link's session, which runs alone from its opening, of the first
--- requests of the link; and the bytes that were written, a prefix of what is written of the exchanges.
+-- A link's service read these bytes, had these exchanges of its first requests, in which its session runs alone from
+-- its opening, and wrote a beginning of their output.
 pub record LinkMoves (places : ℕ) (s : Streams) (exchanges : List Exchange) : Type 0 where
   pub read : List ℕ
   pub written : List ℕ
@@ -73,21 +75,21 @@ pub record LinkMoves (places : ℕ) (s : Streams) (exchanges : List Exchange) : 
   pub runs : AloneRun places opening exchanges last
   pub front : IsPrefixOf written (link_out exchanges)
 
--- all was written, and the exchanges are those of all that the link asks, which ends so
+-- the exchanges are of all that the link asks, which ends so, and their whole output was written
 pub record EndsLink {places : ℕ} {s : Streams} {exchanges : List Exchange} (moves : LinkMoves places s exchanges)
     (ending : Ending) : Type 0 where
   pub asked : HoldsOfAll s.left_after moves.read
       (λ bytes. link_asks_of bytes ≡ record { asks = map asked_in exchanges; ending = ending })
   pub whole : moves.written ≡ link_out exchanges
 
--- all was written, and the exchanges are those of the lines that end among the bytes that were read
+-- the exchanges are of the requests in lines that end among the bytes read, and their whole output was written
 pub record BreaksLink {places : ℕ} {s : Streams} {exchanges : List Exchange} (moves : LinkMoves places s exchanges) :
     Type 0 where
   pub asked : map asked_in exchanges ≡ ended_link_asks_of moves.read
   pub whole : moves.written ≡ link_out exchanges
 
--- What the end of a link tells of the bytes that were read: they ended, were cut off in a line, were more than the
--- limit, or reading failed. A failed write, or a lack of memory, tells nothing.
+-- What the end of a link tells of the bytes that were read: they ended between two commands or at QUIT, ended inside a
+-- text or certificate, were more than the limit, or reading failed. A failed write, or a lack of memory, tells nothing.
 abbrev pub EndsLinkSo : {places : ℕ} {s : Streams} {exchanges : List Exchange} → LinkMoves places s exchanges →
     LinkEnd → Type 0
 EndsLinkSo moves end.Done = EndsLink moves Ended
@@ -97,6 +99,6 @@ EndsLinkSo moves end.Read = BreaksLink moves
 EndsLinkSo moves end.Write = Unit {0}
 EndsLinkSo moves end.NoMemory = Unit {0}
 
--- the service of a link: what it read, wrote and replied, and an end that tells this as it was
+-- the service of a link read and wrote these bytes, had these exchanges, and ended in a way that is true of them
 abbrev pub ServesLink : ℕ → Streams → List Exchange → LinkEnd → Type 0
 ServesLink places s exchanges end = (moves : LinkMoves places s exchanges) × EndsLinkSo moves end

@@ -12,7 +12,7 @@ use Rattle.spec_server.specs.Exchanges.{Exchange, asked_in, log_of, RunAlone, Ru
 abbrev pub reads_in_all : List Exchange → List ExactRead
 reads_in_all xs = flat_map (λ x. x.reads) xs
 
--- a session is one worker's, by its number
+-- the reads of one worker, in order: those for sessions whose number leaves the worker's when divided by `workers`
 abbrev pub reads_of_worker : ℕ → ℕ → List Exchange → List ExactRead
 reads_of_worker workers worker xs = flat_map (λ x. if x.session % workers == worker then x.reads else []) xs
 
@@ -20,7 +20,7 @@ reads_of_worker workers worker xs = flat_map (λ x. if x.session % workers == wo
 abbrev pub exchanges_of_worker : ℕ → ℕ → List Exchange → List Exchange
 exchanges_of_worker workers worker xs = filter (λ x. x.session % workers == worker) xs
 
--- the reads of each worker, with the session that each was made for, in the order in which it made them
+-- the reads of the worker of this number, each with the session that it was made for, in the order of the exchanges
 abbrev pub logs_of : ℕ → List Exchange → ℕ → List Logged
 logs_of workers xs worker = log_of (exchanges_of_worker workers worker xs)
 
@@ -45,13 +45,15 @@ pub record RunsBy (workers places : ℕ) (xs : List Exchange) : Type 0 where
 abbrev pub asks_of_worker : ℕ → ℕ → List (Asked ExactAsk) → List (Asked ExactAsk)
 asks_of_worker workers worker asks = filter (λ asked. asked.session % workers == worker) asks
 
--- exchanges of these requests, in their order, of which those of each worker are the ones that it had
+-- there is an order of exchanges of these requests, in the requests' order,
+-- in which those of each worker are what it had
 pub record Interleaves (workers : ℕ) (asks : List (Asked ExactAsk)) (had : ℕ → List Exchange) : Type 0 where
   pub exchanges : List Exchange
   pub asked : map asked_in exchanges ≡ asks
   pub parts : (worker : ℕ) → exchanges_of_worker workers worker exchanges ≡ had worker
 
--- the sessions of each worker run alone in its own exchanges, and its reads stand in order
+-- in these exchanges, those of one worker, each session runs alone, and all reads in order fit each other: no count
+-- falls, and what was done stays so
 pub record HasServedAlone (places : ℕ) (xs : List Exchange) : Type 0 where
   pub alone : RunAlone places xs
   pub ordered : InPairs AreInOrder (reads_in_all xs)

@@ -63,7 +63,8 @@ pub fn links_can_be_served()
 {}
 
 /// A model that a link asks its session to hold is spelled by the lines after a line with the command LOAD. These are
-/// lines of all bytes of the link, or those that end, and in a service those of the bytes that were read.
+/// lines of all bytes of the link, or those that end, and in a service those of the bytes that were read. Past the
+/// limit on bytes they are lines that end within it.
 pub fn models_of_links_are_spelled()
     ensures ended { (bytes : List ℕ) (before behind : List (Asked ExactAsk)) (session : ℕ) (m : Model) →
         ended_link_asks_of bytes ≡ before ++ record { session = session; ask = ask.Loaded m } ∷ behind →
@@ -93,7 +94,7 @@ pub fn reads_stay_in_order()
         InPairs (λ (j k : ℕ). j ≡ k → ⊥) (flat_map (λ (x : Logged). published_by x.read) log) }
 {}
 
-/// What one worker may reply, with its reads, so many may.
+/// Exchanges that one worker may have, answering the requests one after the other, any number of workers may have.
 pub fn one_worker_is_many()
     ensures { (places workers : ℕ) (xs : List Exchange) → RunFits places xs → RunsBy workers places xs }
 {}
@@ -110,8 +111,9 @@ pub fn workers_are_many()
         AreBacked (reads_in_all xs) → HaveOneOrder places workers (logs_of workers xs) → ManyFits places workers xs }
 {}
 
-/// Runs of the same requests, by any workers and places, give a session the same replies, but for `HOW`, certificates,
-/// and answers in place of a refused operation or of a spent budget.
+/// Runs of the same requests, by any workers and places, give a session the same replies, if memory runs out for it in
+/// neither. Replies may differ to `HOW` and `CERT`; one may answer where the other is `PAST` or `SPENT`; and of two
+/// exact solves one may be `OPEN`, or their lines behind the first may differ.
 pub fn workers_agree()
     ensures { (workers workers' places places' session : ℕ) (xs ys : List Exchange) →
         RunsBy workers places xs → RunsBy workers' places' ys → map asked_in xs ≡ map asked_in ys →

@@ -11,7 +11,8 @@ pub enum LinkEnd {
     Write,
     /// The link ended inside the body of a command.
     Cut,
-    /// It sent more than may be read.
+    /// The link sent more than may be read.
     Over,
+    /// Memory was refused.
     NoMemory,
 }
