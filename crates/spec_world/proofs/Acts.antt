@@ -74,9 +74,11 @@ shown_all shape payload = by (has_shape shape payload) refl
 module _ (server : Server) (me : ℕ) (now : List ExactPlace) (state : State) (finished : List Exchange)
     (run : AloneRun server.places opening finished state) (bounded : length now ≤ server.places)
     (sized : (k : ℕ) (words : List ℕ) → place_at now k ≡ Some (place.Done words) → length words ≡ basis_words) where
+  -- the session with the state and the ended requests of this module, at this stage
   abbrev session : Stage → Session
   session stage = record { state = state; stage = stage; finished = finished }
 
+  -- the act that begins a request leaves what fits the session, as its beginning says
   begun_moved : (asked : ExactAsk) (begun : Begun) → Begins state asked begun →
       Moved server me now (session Idle) (act.Ask asked) (begun_left me now (session Idle) asked begun)
   begun_moved asked (step.Answers replied next) b =
@@ -90,6 +92,7 @@ module _ (server : Server) (me : ℕ) (now : List ExactPlace) (state : State) (f
       (subst (λ a. Begins state a (Looks shape)) same b) refl (omega arith) refl (ap (λ a. a ∷ []) (sym same))
       (λ k words e. absurd (let z = e in cc))
 
+  -- the act that counts the places for a look leaves what fits the session
   counted_moved : (shape : List ℕ) → StageFits server me now state (Counts shape) →
       Moved server me now (session (Counts shape)) act.Count (counted_left now (session (Counts shape)) shape)
   counted_moved shape b =
@@ -100,7 +103,8 @@ module _ (server : Server) (me : ℕ) (now : List ExactPlace) (state : State) (f
       (now, (refl, refl), refl) (omega arith) (looking_reads shape (length now) (read.Count (length now) ∷ []))
       (looking_going shape (length now) (read.Count (length now) ∷ [])) (λ k words e. cc)
 
-  -- a place that is read as done, whatever place the act names
+  -- where place k is done, a look that sees place k, and reads of it words that are shown, moves the session as that
+  -- read says
   seen_done : (j : ℕ) (shape : List ℕ) (k : ℕ) (reads : List ExactRead) (payload words : List ℕ) →
       IsSeeing now state shape k reads → place_at now k ≡ Some (place.Done payload) →
       IsShown payload words → (has_shape shape words ≡ true → words ≡ payload) →
@@ -148,6 +152,7 @@ module _ (server : Server) (me : ℕ) (now : List ExactPlace) (state : State) (f
           (looking_reads shape k (reads ++ read.Seen k words ∷ []))
           (looking_going shape k (reads ++ read.Seen k words ∷ [])) (λ i ws d. cc)
 
+  -- the act that sees place k in a look leaves what fits the session, whatever stands there
   seen_place : (j : ℕ) (shape : List ℕ) (k : ℕ) (reads : List ExactRead) (p : ExactPlace) →
       IsSeeing now state shape k reads → place_at now k ≡ Some p →
       Moved server me now (session (Sees shape k reads)) (act.See j)
@@ -164,6 +169,7 @@ module _ (server : Server) (me : ℕ) (now : List ExactPlace) (state : State) (f
       seen_done j shape k reads payload (shown shape payload) h at (shown_so shape payload) (shown_all shape payload)
       (shown_front shape payload)
 
+  -- the act that sees the next place of a look leaves what fits the session
   seen_moved : (j : ℕ) (shape : List ℕ) (k : ℕ) (reads : List ExactRead) → IsSeeing now state shape k reads →
       Moved server me now (session (Sees shape k reads)) (act.See j)
       (seen_left now (session (Sees shape k reads)) shape k reads (read_of shape k (place_at now k)))
@@ -173,6 +179,7 @@ module _ (server : Server) (me : ℕ) (now : List ExactPlace) (state : State) (f
       (seen_left now (session (Sees shape k reads)) shape k reads (read_of shape k p)))
       (sym there.1) (seen_place j shape k reads there.0 h there.1)
 
+  -- the act that solves leaves what fits the session, as its work says
   worked_moved : (found : Looked) (reads : List ExactRead) (worked : Worked) → IsSolving state found reads →
       Works state found worked →
       Moved server me now (session (Solving found reads)) act.Work
@@ -200,6 +207,7 @@ module _ (server : Server) (me : ℕ) (now : List ExactPlace) (state : State) (f
 
   -- ---- all of them
 
+  -- where an act may leave a session of a stage that fits its reads and the places, what it leaves fits them too
   pub act_moved : (stage : Stage) (a : ExactAct) (left : Left) → Leaves server me now (session stage) stage a left →
       StageFits server me now state stage → Moved server me now (session stage) a left
   act_moved Idle (act.Ask asked) left h fits =

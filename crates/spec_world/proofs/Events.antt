@@ -3,8 +3,8 @@
 -- `step_reads`: where a world is good, an event adds at most one read, which the places answer as they are then.
 -- `reads_now`: in a run from the opening, an event adds at most one read, which the places answer as they are then.
 -- `done_stays`: a place that is done stays so, with its words, whatever events follow.
--- `end_fits`: in a run from the opening, an event ends with the reply of the request that it ends, or quietly where it
---   ends none.
+-- `end_fits`: in a run from the opening, an event that is taken ends with the reply of the request that it ends, or
+--   quietly where it ends none; one that is not taken changes nothing.
 -- `not_where_disabled`: an event ends with `Not` exactly where it is not enabled.
 use Rattle.std.proofs.Common.{◌≡◌, ℕ, Bool, true, false, List, [], ◌∷◌, ◌++◌, Option, Some, None, refl, sym, ap}
 use Rattle.std.proofs.Common.{◌∙◌, subst, nat_eq, eqb-true, ◌↔◌, arith}

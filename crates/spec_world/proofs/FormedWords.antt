@@ -27,6 +27,7 @@ use Rattle.spec_world.proofs.FormWords.{form_kept}
 
 -- ---- what a look finds has the shape
 
+-- if the look found a place, the words of the place have this shape in front
 abbrev HasShape : Words → Looked → Type 0
 HasShape shape found = IfSome found (λ p. has_shape shape p.words ≡ true)
 
@@ -70,7 +71,7 @@ shape_is state m f shape held formed (inr e) =
 
 -- ---- what is published
 
--- the words of the place that was found
+-- if the look found a place, the words of the place are well formed
 abbrev pub IsFormedFound : Looked → Type 0
 IsFormedFound found = IfSome found (λ p. IsWellFormed p.words)
 
@@ -84,6 +85,7 @@ handed_fits f is (Some p) formed shaped =
 
 module _ (state : State) (found : Looked) (pending : Pending) (s : SolvesWith state found (Publishes pending))
     (is : IsForm s.form) (fits : IfSome (handed_by found) (IsBasisOf s.form)) where
+  -- the words that a solve goes on to publish are well formed, whatever its end
   by_end : (end : ExactSolveEnd) → s.solved.end ≡ end →
       Publishes pending ≡ worked_with state found end (how_by found s.solved.route) (words_of_end s.form end) →
       IsWellFormed pending.words

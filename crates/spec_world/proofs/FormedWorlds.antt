@@ -33,6 +33,7 @@ use Rattle.spec_world.proofs.FormedWords.{IsFormedFound, published_formed}
 
 -- ---- sessions and places
 
+-- the words of a stage are well formed: those that the look found, or those to be published; other stages have none
 abbrev IsFormedStage : Stage → Type 0
 IsFormedStage (Solving found reads) = IsFormedFound found
 IsFormedStage (Puts pending reads) = IsWellFormed pending.words
@@ -40,14 +41,16 @@ IsFormedStage (Claims pending c reads) = IsWellFormed pending.words
 IsFormedStage (Writes pending k reads) = IsWellFormed pending.words
 IsFormedStage other = Unit {0}
 
--- its model may be kept, and the words that it found or publishes are well formed
+-- if the session holds a model, that is a usual one; and the words that it found or is to publish are well formed
 record IsFormedSession (s : Session) : Type 0 where
   kept : IfSome s.state.model IsUsualModel
   stage : IsFormedStage s.stage
 
+-- the words of each place that is done are well formed
 abbrev ArePlacesFormed : List ExactPlace → Type 0
 ArePlacesFormed now = (k : ℕ) (words : Words) → place_at now k ≡ Some (place.Done words) → IsWellFormed words
 
+-- what an act leaves is well formed: its session with its model and words, and the words of the done places
 record IsFormedLeft (left : Left) : Type 0 where
   session : IsFormedSession left.session
   places : ArePlacesFormed left.places
@@ -79,13 +82,16 @@ works_model old found replied next (inr e) = let z : next ≡ old = cc in ap (λ
 
 module _ (server : Server) (me : ℕ) (now : List ExactPlace) (state : State) (finished : List Exchange)
     (kept : IfSome state.model IsUsualModel) (formed : ArePlacesFormed now) where
+  -- the session with the state and the ended requests of this module, at this stage
   abbrev session : Stage → Session
   session stage = record { state = state; stage = stage; finished = finished }
 
+  -- the stage of a look holds no words, so each of them is well formed
   looking_formed : (shape : Words) (k : ℕ) (reads : List ExactRead) → IsFormedStage (looking shape k reads)
   looking_formed shape zero reads = tt
   looking_formed shape (suc k) reads = tt
 
+  -- the act that begins a request whose model may be kept leaves well-formed words
   begun_formed : (asked : ExactAsk) (begun : Begun) → IsKeptAsk asked → Begins state asked begun →
       IsFormedLeft (begun_left me now (session Idle) asked begun)
   begun_formed asked (Answers replied next) may b = record {
@@ -99,6 +105,7 @@ module _ (server : Server) (me : ℕ) (now : List ExactPlace) (state : State) (f
   begun_formed asked (Looks shape) may b =
       record { session = record { kept = kept; stage = tt }; places = formed }
 
+  -- where place k is done, the stage of a look after its read of place k has well-formed words, if any
   seen_payload : (shape : Words) (k : ℕ) (reads : List ExactRead) (payload : Words) →
       place_at now k ≡ Some (place.Done payload) →
       IsFormedStage (seen_stage shape k reads (read.Seen k (shown shape payload)))
@@ -110,6 +117,7 @@ module _ (server : Server) (me : ℕ) (now : List ExactPlace) (state : State) (f
       by true e = subst IsWellFormed (sym (shown_all shape payload e)) (formed k payload at)
       by false e = looking_formed shape k reads
 
+  -- the stage of a look after its read of place k has well-formed words, if any, whatever the place is
   seen_place : (shape : Words) (k : ℕ) (reads : List ExactRead) (p : Option ExactPlace) → place_at now k ≡ p →
       IsFormedStage (seen_stage shape k (reads ++ read_of shape k p ∷ []) (read_of shape k p))
   seen_place shape k reads None at = looking_formed shape k (reads ++ read.NotDone k ∷ [])
@@ -117,6 +125,7 @@ module _ (server : Server) (me : ℕ) (now : List ExactPlace) (state : State) (f
   seen_place shape k reads (Some (place.Done payload)) at =
       seen_payload shape k (reads ++ read.Seen k (shown shape payload) ∷ []) payload at
 
+  -- the act that solves leaves well-formed words, where those that were found are well formed
   worked_formed : (found : Looked) (reads : List ExactRead) (worked : Worked) → IsSolving state found reads →
       IsFormedFound found → Works state found worked →
       IsFormedLeft (worked_left me now (session (Solving found reads)) reads worked)
@@ -136,6 +145,7 @@ module _ (server : Server) (me : ℕ) (now : List ExactPlace) (state : State) (f
     places = formed;
   }
 
+  -- counting the places for a put leaves well-formed words, where those to be put are well formed
   put_counted_formed : (pending : Pending) (reads : List ExactRead) → IsWellFormed pending.words →
       IsFormedLeft (put_counted_left server me now (session (Puts pending reads)) pending reads)
   put_counted_formed pending reads fits = by (nat_eq (length now) server.places)
@@ -152,6 +162,7 @@ module _ (server : Server) (me : ℕ) (now : List ExactPlace) (state : State) (f
       by true = record { session = record { kept = kept; stage = tt }; places = formed }
       by false = record { session = record { kept = kept; stage = fits }; places = formed }
 
+  -- one claimed place more leaves the words of each done place well formed
   claim_formed : ArePlacesFormed (now ++ place.Claimed me ∷ [])
   claim_formed k words at = by (place_before now k (place.Done words) (place.Claimed me) at)
     where
@@ -159,6 +170,7 @@ module _ (server : Server) (me : ℕ) (now : List ExactPlace) (state : State) (f
       by (inl e) = formed k words e
       by (inr e) = cc
 
+  -- claiming a place for a put leaves well-formed words, where those to be put are well formed
   claimed_formed : (pending : Pending) (c : ℕ) (reads : List ExactRead) → IsWellFormed pending.words →
       IsFormedLeft (claimed_left me now (session (Claims pending c reads)) pending c reads)
   claimed_formed pending c reads fits = by (nat_eq (length now) c)
@@ -176,6 +188,7 @@ module _ (server : Server) (me : ℕ) (now : List ExactPlace) (state : State) (f
       by true = record { session = record { kept = kept; stage = fits }; places = claim_formed }
       by false = record { session = record { kept = kept; stage = tt }; places = formed }
 
+  -- writing the words of a put leaves well-formed words, where those to be put are well formed
   done_formed : (pending : Pending) (k : ℕ) (reads : List ExactRead) → IsWriting server me now state pending k reads →
       IsWellFormed pending.words → IsFormedLeft (done_left me now (session (Writes pending k reads)) pending k reads)
   done_formed pending k reads h fits = record { session = record { kept = kept; stage = tt }; places = places }
@@ -195,6 +208,7 @@ module _ (server : Server) (me : ℕ) (now : List ExactPlace) (state : State) (f
           by false e =
               formed j words (sym (with_other now k j (place.Done pending.words) (eqb-false k j e)) ∙ at)
 
+  -- each act leaves well-formed words, where the session's stage has such, and a model that it brings may be kept
   act_formed : (stage : Stage) (a : ExactAct) (left : Left) → IsKeptAct a → IsFormedStage stage →
       StageFits server me now state stage → Leaves server me now (session stage) stage a left → IsFormedLeft left
   act_formed Idle (act.Ask asked) left may stage fits h =
@@ -226,6 +240,7 @@ module _ (server : Server) (me : ℕ) (now : List ExactPlace) (state : State) (f
 
 -- ---- worlds
 
+-- each session's model may be kept and its words are well formed, and so are those of each done place
 record IsFormedWorld (w : World) : Type 0 where
   sessions : (session : ℕ) → IsFormedSession (w.sessions session)
   places : ArePlacesFormed w.places

@@ -17,7 +17,8 @@ use Rattle.spec_world.specs.Together.{by_session, AskRuns, Together}
 use Rattle.spec_world.proofs.Worlds.{IsGood, opening_good, step_good}
 use Rattle.spec_world.proofs.Events.{step_reads}
 
--- what events of one session read, and that the world stays good
+-- from the world `old` to `new`, session `me` made some reads more, the places answer them, the other sessions stay,
+-- and the new world is good
 record Reads (server : Server) (old : World) (me : ℕ) (new : World) : Type 0 where
   made : List ExactRead
   reads : reads_of (new.sessions me) ≡ reads_of (old.sessions me) ++ made
@@ -66,7 +67,8 @@ made_so old new x made i j e reads =
     ∙ flat_map-append (λ (x : Exchange). x.reads) old.finished (x ∷ [])
     ∙ ap (λ rs. flat_map (λ (x : Exchange). x.reads) old.finished ++ rs) (append-nil x.reads))
 
--- what worlds come to by asks one after the other
+-- from the world `old` to `new`, each session ended its own of these exchanges in order, the places answer the reads of
+-- all, and the new world is good
 record ComesTo (server : Server) (old : World) (xs : List Exchange) (new : World) : Type 0 where
   finished : (session : ℕ) → (new.sessions session).finished ≡ (old.sessions session).finished ++ of_session session xs
   played : Plays server.places old.places (log_of xs) new.places
@@ -75,6 +77,7 @@ record ComesTo (server : Server) (old : World) (xs : List Exchange) (new : World
 module _ (server : Server) (old : World) (x : Exchange) (xs : List Exchange) (middle new : World)
     (r : AskRuns server old x middle) (reads : Reads server old x.session middle)
     (c : ComesTo server middle xs new) where
+  -- each session's ended requests are those from before and then its own among the exchanges
   all_finished : (session : ℕ) →
       (new.sessions session).finished ≡ (old.sessions session).finished ++ of_session session (x ∷ xs)
   all_finished session = c.finished session ∙ by (nat_eq x.session session) refl
@@ -96,6 +99,7 @@ module _ (server : Server) (old : World) (x : Exchange) (xs : List Exchange) (mi
           ∙ ap (λ t. (old.sessions session).finished ++ cond t (x ∷ of_session session xs) (of_session session xs))
           (sym e)
 
+  -- where one request runs to its end, and what follows comes to exchanges, both come to the exchange and these
   comes_on : (old.sessions x.session).stage ≡ Idle → ComesTo server old (x ∷ xs) new
   comes_on idle =
       let made : reads.made ≡ x.reads =

@@ -18,11 +18,12 @@ use Rattle.spec_world.specs.World.{Claims, Writes, Session, World, fits_stage, i
 use Rattle.spec_world.specs.World.{begun_left, counted_left, read_of, seen_left, worked_left, put_counted_left}
 use Rattle.spec_world.specs.World.{claimed_left, done_left, Leaves, end_of, Takes, StepBy, WorldStep}
 
--- the sessions, one of them as it is left
+-- the sessions by their numbers, with the one of number `session` replaced by `new`
 abbrev pub updated : (ℕ → Session) → ℕ → Session → ℕ → Session
 updated sessions session new other = cond (nat_eq session other) new (sessions other)
 
--- the world after an act
+-- the world after an event whose act leaves this: its session and the places are what is left, and the event is the
+-- last one
 abbrev pub after_act : World → ExactEvent → Left → World
 after_act old event left = record {
   sessions = updated old.sessions event.session left.session;
@@ -44,7 +45,7 @@ act_taken server old event left leaves = record {
   ends = refl;
 }
 
--- each request may begin to be answered; memory may run out for a wide solve
+-- whatever is due for a request, the request has a beginning: it is answered at once, or it looks for a basis
 begins : (state : State) (asked : ExactAsk) (what : Due) → due state asked ≡ what → (begun : Begun) × Begins state asked begun
 begins state asked (Replies replied next) is = (Answers replied next, inl (subst (λ d. BegunBy state d (Answers replied next)) (sym is) refl))
 begins state asked (Solves m) is =

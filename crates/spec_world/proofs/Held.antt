@@ -17,7 +17,7 @@ pub run_append : (server : Server) (a b c : World) (xs ys : List ExactEvent) →
 run_append server a b c [] ys p q = subst (λ w. WorldRun server w ys c) p q
 run_append server a b c (x ∷ xs) ys p q = (p.0, p.1, p.2, run_append server p.1 b c xs ys p.3 q)
 
--- the world old, but for session me, the places, and more events
+-- the world `old` with s as session `me`, `now` as its places, and `more` events behind its own
 abbrev pub holding : World → ℕ → Session → List ExactPlace → List ExactEvent → World
 holding old me s now more = record { sessions = updated old.sessions me s; places = now; events = old.events ++ more }
 
@@ -34,7 +34,8 @@ step_taken : (server : Server) (old : World) (event : ExactEvent) (end : ExactEn
 step_taken server old event end new e t = subst (λ b. StepBy b server old event end new) (sym e) t
 
 module _ (server : Server) (old : World) (me : ℕ) (there : has_session server me ≡ true) where
-  -- the first act
+  -- an act that fits a session's stage, with an outcome that it may have, is an event from the old world to the one
+  -- with that outcome
   pub first_act : (a : ExactAct) (left : Left) → fits_stage (old.sessions me).stage a ≡ true →
       Leaves server me old.places (old.sessions me) (old.sessions me).stage a left →
       WorldStep server old (by_session me a) (end_of me left.replied)
@@ -53,7 +54,8 @@ module _ (server : Server) (old : World) (me : ℕ) (there : has_session server 
         ends = refl;
       })
 
-  -- a later one
+  -- after more events of the session, an act that fits its stage then, with an outcome that it may have, is an event to
+  -- the world with that outcome
   next_act : (s : Session) (now : List ExactPlace) (more : List ExactEvent) (a : ExactAct) (left : Left) →
       fits_stage s.stage a ≡ true → Leaves server me now s s.stage a left →
       WorldStep server (holding old me s now more) (by_session me a) (end_of me left.replied)
@@ -74,16 +76,19 @@ module _ (server : Server) (old : World) (me : ℕ) (there : has_session server 
         ends = refl;
       })
 
-  -- acts that lead on
+  -- acts of session `me` alone lead from it as s, with the places `now`, to it as `new`, with the places `next`,
+  -- whatever events came before
   pub record Leads (s : Session) (now : List ExactPlace) (new : Session) (next : List ExactPlace) : Type 0 where
     pub acts : List ExactAct
     pub run : (more : List ExactEvent) →
         WorldRun server (holding old me s now more) (map (by_session me) acts)
         (holding old me new next (more ++ map (by_session me) acts))
 
+  -- no acts lead from a session and places to the same session and places
   pub leads_nowhere : (s : Session) (now : List ExactPlace) → Leads s now s now
   leads_nowhere s now = record { acts = []; run = λ more. ap (holding old me s now) (append-nil more) }
 
+  -- where an act may leave a session and places that lead on to others, the ones before the act lead on to these
   pub leads_by : (s : Session) (now : List ExactPlace) (a : ExactAct) (left : Left) (new : Session)
       (next : List ExactPlace) → fits_stage s.stage a ≡ true → Leaves server me now s s.stage a left →
       Leads left.session left.places new next → Leads s now new next

@@ -25,6 +25,7 @@ use Rattle.spec_world.proofs.Held.{Leads, leads_nowhere, leads_by}
 
 -- ---- what is shown of a place
 
+-- words that are read of a place with a shape are what is shown of its words for this shape
 shown_is_read : (shape payload words : List ℕ) → IsShown payload words →
     (has_shape shape words ≡ true → length words ≡ basis_words) →
     (has_shape shape words ≡ false → front words ≡ words) → shown shape payload ≡ words
@@ -45,22 +46,28 @@ shown_is_read shape payload words (inr e) size fronts = by (has_shape shape payl
 
 module _ (server : Server) (old : World) (me : ℕ) (there : has_session server me ≡ true) (state : State)
     (finished : List Exchange) where
+  -- the session with the state and the ended requests of this module, at this stage
   abbrev at : Stage → Session
   at stage = record { state = state; stage = stage; finished = finished }
 
+  -- acts of session `me` alone lead from it at this stage, with the places `now`, to the session `new` and the places
+  -- `next`
   abbrev Goes : Stage → List ExactPlace → Session → List ExactPlace → Type 0
   Goes stage now new next = Leads server old me there (at stage) now new next
 
+  -- these reads, each as one of session `me`
   abbrev log : List ExactRead → List Logged
   log reads = logged me reads
 
   -- ---- puts
 
+  -- the session once its solve has ended with these reads and this outcome of publishing
   abbrev put_ended : Pending → List ExactRead → Put → Session
   put_ended pending reads result =
       ended me (at Idle) solve reads (answered state pending.end) (after_put state pending result)
 
-  -- an act whose outcome a test decides
+  -- where an act has the outcome x or y by a test, and the session goes on from the outcome that the test's value b
+  -- picks, it goes on from its stage before the act
   decided : (stage : Stage) (now : List ExactPlace) (a : ExactAct) (t b : Bool) (x y : Left) (new : Session)
       (next : List ExactPlace) → t ≡ b → fits_stage stage a ≡ true →
       Leaves server me now (at stage) stage a (cond t x y) →
@@ -69,6 +76,7 @@ module _ (server : Server) (old : World) (me : ℕ) (there : has_session server 
       leads_by server old me there (at stage) now a (cond t x y) new next fits leaves
       (subst (λ c. Leads server old me there (cond c x y).session (cond c x y).places new next) (sym e) l)
 
+  -- where all places are claimed, a put's count leads to its end as `Full`
   full_leads : (now : List ExactPlace) (pending : Pending) (looked : List ExactRead) → length now ≡ server.places →
       Goes (Puts pending looked) now
       (put_ended pending (looked ++ read.Count (length now) ∷ []) (Full (length now))) now
@@ -78,6 +86,7 @@ module _ (server : Server) (old : World) (me : ℕ) (there : has_session server 
       (leads_nowhere server old me there
       (put_ended pending (looked ++ read.Count (length now) ∷ []) (Full (length now))) now)
 
+  -- writing the words of a put to the claimed place leads to its end as `Published`
   done_leads : (now : List ExactPlace) (pending : Pending) (k : ℕ) (reads : List ExactRead) →
       Goes (Writes pending k reads) now (put_ended pending (reads ++ read.Done k pending.words ∷ []) (Published k))
       (with_place now k (place.Done pending.words))
@@ -87,6 +96,7 @@ module _ (server : Server) (old : World) (me : ℕ) (there : has_session server 
       (leads_nowhere server old me there (put_ended pending (reads ++ read.Done k pending.words ∷ []) (Published k))
       (with_place now k (place.Done pending.words)))
 
+  -- claiming the next place and writing the words there lead to a put's end as `Published`
   claim_leads : (now : List ExactPlace) (pending : Pending) (reads : List ExactRead) →
       Goes (Claims pending (length now) reads) now
       (put_ended pending ((reads ++ read.Claim (length now) ∷ []) ++ read.Done (length now) pending.words ∷ [])
@@ -97,6 +107,7 @@ module _ (server : Server) (old : World) (me : ℕ) (there : has_session server 
       (eq-eqb (length now) (length now) refl) refl refl
       (done_leads (now ++ place.Claimed me ∷ []) pending (length now) (reads ++ read.Claim (length now) ∷ []))
 
+  -- where not all places are claimed, counting, claiming and writing lead from a put to its end as `Published`
   published_leads : (now : List ExactPlace) (pending : Pending) (looked : List ExactRead) → length now < server.places →
       Goes (Puts pending looked) now
       (put_ended pending
@@ -120,6 +131,7 @@ module _ (server : Server) (old : World) (me : ℕ) (there : has_session server 
       (ne_eqb (length now) server.places (λ e. omega arith)) refl refl
       (claim_leads now pending (looked ++ read.Count (length now) ∷ [])))
 
+  -- where places answer the reads of a put, its acts lead to its end, with these places
   put_leads : (now last : List ExactPlace) (pending : Pending) (looked tried : List ExactRead) (result : Put) →
       PutReads server.places pending.words result tried →
       Plays server.places now (log tried) last →
@@ -160,7 +172,8 @@ module _ (server : Server) (old : World) (me : ℕ) (there : has_session server 
   -- ---- looks
 
   module _ (shape : List ℕ) (found : Looked) (now : List ExactPlace) (new : Session) (next : List ExactPlace) where
-    -- one place is read
+    -- where place k is read as `made`, and the session goes on from the stage behind this read, it goes on from the
+    -- look at place k
     see_leads : (k : ℕ) (reads : List ExactRead) (made : ExactRead) → read_of shape k (place_at now k) ≡ made →
         Leads server old me there (seen_left now (at (Sees shape k reads)) shape k reads made).session now new next →
         Goes (Sees shape k reads) now new next
@@ -171,7 +184,8 @@ module _ (server : Server) (old : World) (me : ℕ) (there : has_session server 
         (subst (λ r. Leads server old me there
         (seen_left now (at (Sees shape k reads)) shape k reads r).session now new next) (sym e) l)
 
-    -- a place that is done is read
+    -- where place k is done and is read as these words, and the session goes on from what the look comes to by them, it
+    -- goes on from the look at place k
     seen_leads : (k : ℕ) (reads : List ExactRead) (words : List ℕ) (rest : List ExactRead) (payload : List ℕ) →
         place_at now k ≡ Some (place.Done payload) → IsShown payload words →
         SeenBy (has_shape shape words) k words rest found (SeesDown shape k rest found) →
@@ -192,6 +206,7 @@ module _ (server : Server) (old : World) (me : ℕ) (there : has_session server 
             (subst (λ rs. Goes (Solving found (reads ++ read.Seen k words ∷ rs)) now new next) c.1 l)
         by false c = more c.1
 
+    -- where places answer reads that look down from place k, a look there goes on as the solve does that has them read
     sees_lead : (k : ℕ) (reads rest : List ExactRead) (last : List ExactPlace) → SeesDown shape k rest found →
         Plays server.places now (log rest) last → Goes (Solving found (reads ++ rest)) now new next →
         Goes (looking shape k reads) now new next
@@ -223,12 +238,13 @@ module _ (server : Server) (old : World) (me : ℕ) (there : has_session server 
 
   -- ---- the whole of what a solve reads
 
+  -- the session once its solve has ended with these reads, this reply and this state
   abbrev final : List ExactRead → ExactReply → State → Session
   final reads replied new = ended me (at Idle) solve reads replied new
 
   module _ (now last : List ExactPlace) (shape : List ℕ) (found : Looked) (looked reads : List ExactRead)
       (replied : ExactReply) (new : State) (look : LookReads shape looked found) where
-    -- the reads of the look
+    -- where the places answer the reads of a look, its count is that of the claimed places, and the places stay
     counted : (middle : List ExactPlace) → Plays server.places now (log looked) middle →
         (look.count ≡ length now) × (middle ≡ now)
     counted middle plays =
@@ -236,7 +252,7 @@ module _ (server : Server) (old : World) (me : ℕ) (there : has_session server 
         subst (λ rs. Plays server.places now (log rs) middle) look.all plays in
         (p.1.0, sees_stay server.places me shape look.count look.seen found p.0 middle look.down p.2 ∙ p.1.1)
 
-    -- from the look on
+    -- where the places answer the reads of a solve, the session goes on from the look's end to the reply
     works_lead : (worked : Worked) → Works state found worked →
         Concludes server.places state worked looked reads replied new → Plays server.places now (log reads) last →
         Goes (Solving found looked) now (final reads replied new) last
@@ -264,7 +280,8 @@ module _ (server : Server) (old : World) (me : ℕ) (there : has_session server 
         (put_leads now last pending looked c.tried c.put c.puts
         (subst (λ ps. Plays server.places ps (log c.tried) last) same p.2)))))
 
-    -- the whole of it
+    -- where the places answer the reads of the look, and the session goes on from the look's end to the reply, it does
+    -- so from the look's count
     look_leads : (first : length now ≡ look.count) → Plays server.places now (log looked) now →
         Goes (Solving found looked) now (final reads replied new) last →
         Goes (Counts shape) now (final reads replied new) last
@@ -279,6 +296,7 @@ module _ (server : Server) (old : World) (me : ℕ) (there : has_session server 
         (subst (λ ps. Plays server.places ps (log look.seen) now) p.1.1 p.2)
         (subst (λ rs. Goes (Solving found rs) now (final reads replied new) last) look.all l)))
 
+    -- where the places answer all reads of a solve, they answer those of its look, which come first
     looked_first : (worked : Worked) → Concludes server.places state worked looked reads replied new →
         Plays server.places now (log reads) last →
         (middle : List ExactPlace) × Plays server.places now (log looked) middle
@@ -288,6 +306,8 @@ module _ (server : Server) (old : World) (me : ℕ) (there : has_session server 
         (subst (λ rs. Plays server.places now rs last) (ap log c.all ∙ logged-append me looked c.tried) plays) in
         (p.0, p.1)
 
+    -- where the places answer all reads of a solve, whether its look finds a place or none, a session at the count of
+    -- this look goes on to the reply
     pub look_runs : (worked : Worked) → Works state found worked →
         Concludes server.places state worked looked reads replied new → Plays server.places now (log reads) last →
         Goes (Counts shape) now (final reads replied new) last

@@ -13,12 +13,15 @@ use Rattle.spec_world.specs.World.{Server, ExactAct, Stage, Idle, Session, Left}
 use Rattle.spec_world.specs.Sound.{going, reads_so_far, asks_of, reads_of, asks_by, IsPublisher}
 use Rattle.spec_world.proofs.Stages.{StageFits, run_on}
 
--- the list of ended asks as it is, or with the one that has ended now
+-- From session s to `new`: without a reply the ended exchanges stay as they are. With one, there is one exchange more,
+-- of session `me` and with this reply, and the session is idle.
 abbrev pub Grows : ℕ → Session → Option ExactReply → Session → Type 0
 Grows me s None new = new.finished ≡ s.finished
 Grows me s (Some replied) new =
     (x : Exchange) × (new.finished ≡ s.finished ++ x ∷ []) × (x.session ≡ me) × (x.reply ≡ replied) × (new.stage ≡ Idle)
 
+-- What an act leaves of session s and of the places `now` fits: the session is a run of its own and its stage fits, the
+-- places answer the one read that is made, if any, and reads, requests and ended exchanges grow by the act's.
 pub record Moved (server : Server) (me : ℕ) (now : List ExactPlace) (s : Session) (act : ExactAct)
     (left : Left) : Type 0 where
   pub run : AloneRun server.places opening left.session.finished left.session.state
@@ -35,9 +38,12 @@ pub record Moved (server : Server) (me : ℕ) (now : List ExactPlace) (s : Sessi
 
 module _ (server : Server) (me : ℕ) (now : List ExactPlace) (state : State) (stage : Stage)
     (finished : List Exchange) where
+  -- the session of this module before the act
   abbrev before : Session
   before = record { state = state; stage = stage; finished = finished }
 
+  -- an act that ends no request, and makes at most one read, which publishes nothing and which the places answer,
+  -- leaves what fits the session and the places
   pub goes_on : (act : ExactAct) (new : Stage) (next : List ExactPlace) (made : List ExactRead) →
       AloneRun server.places opening finished state → StageFits server me next state new →
       Plays server.places now (logged me made) next → length made ≤ 1 →
@@ -66,6 +72,7 @@ module _ (server : Server) (me : ℕ) (now : List ExactPlace) (state : State) (s
 
   -- ---- the ask ends
 
+  -- the reads of ended requests with one more are those from before, those of the request so far, and the newest
   all_reads : (x : Exchange) (made : List ExactRead) → x.reads ≡ reads_so_far stage ++ made →
       flat_map (λ (x : Exchange). x.reads) (finished ++ x ∷ []) ++ [] ≡
       (flat_map (λ (x : Exchange). x.reads) finished ++ reads_so_far stage) ++ made
@@ -75,6 +82,7 @@ module _ (server : Server) (me : ℕ) (now : List ExactPlace) (state : State) (s
       ∙ ap (λ rs. flat_map (λ (x : Exchange). x.reads) finished ++ rs) (append-nil x.reads ∙ e)
       ∙ sym (append_assoc (flat_map (λ (x : Exchange). x.reads) finished) (reads_so_far stage) made)
 
+  -- the asks of ended requests with one more are those from before, the one that is going on, and what the act asks
   all_asks : (x : Exchange) (more : List ExactAsk) → going stage ++ more ≡ x.ask ∷ [] →
       map (λ (x : Exchange). x.ask) (finished ++ x ∷ []) ++ [] ≡
       (map (λ (x : Exchange). x.ask) finished ++ going stage) ++ more
@@ -84,6 +92,8 @@ module _ (server : Server) (me : ℕ) (now : List ExactPlace) (state : State) (s
       ∙ ap (λ as'. map (λ (x : Exchange). x.ask) finished ++ as') (sym e)
       ∙ sym (append_assoc (map (λ (x : Exchange). x.ask) finished) (going stage) more)
 
+  -- an act that ends a request, whose reads are a step of the session and the last of which the places answer, leaves
+  -- what fits the session and the places
   pub ends : (act : ExactAct) (asked : ExactAsk) (reads made : List ExactRead) (replied : ExactReply) (new : State)
       (next : List ExactPlace) →
       AloneRun server.places opening finished state → AloneStep server.places state asked reads replied new →

@@ -13,7 +13,8 @@ use Rattle.spec_world.specs.Together.{by_session, AskRuns, Together, HaveSession
 use Rattle.spec_world.proofs.Held.{holding, holds_own, holds_other}
 use Rattle.spec_world.proofs.Running.{RunsTo, step_runs}
 
--- the world after the ask of this exchange
+-- there is a world after the request of exchange x has run from `old` to its end: its session is idle in this state
+-- with x as one exchange more, the others stay, and the places are `last`
 record AskEnds (server : Server) (old : World) (x : Exchange) (state : State) (last : List ExactPlace) : Type 0 where
   new : World
   runs : AskRuns server old x new
@@ -47,7 +48,8 @@ ask_ends server old x state last r =
       places = refl;
     }
 
--- no ask is being answered, and each session goes on alone with its part of the exchanges
+-- each session is idle and may run on alone with its own of these exchanges, and the places answer their reads in order
+-- and come to `last`
 record IsReady (server : Server) (old : World) (xs : List Exchange) (last : List ExactPlace) : Type 0 where
   idle : (session : ℕ) → (old.sessions session).stage ≡ Idle
   alone : (session : ℕ) →
@@ -58,6 +60,7 @@ module _ (server : Server) (old : World) (x : Exchange) (xs : List Exchange) (la
     (state end : State) (ready : IsReady server old (x ∷ xs) last)
     (e : AskEnds server old x state middle) (rest : AloneRun server.places state (of_session x.session xs) end)
     (plays : Plays server.places middle (log_of xs) last) where
+  -- what holds of the asked session as it is left, and of each other one as it was, holds of each session
   each : (P : ℕ → Session → Type 0) →
       P x.session (record { state = state; stage = Idle; finished = (old.sessions x.session).finished ++ x ∷ [] }) →
       ((other : ℕ) → (x.session ≡ other → ⊥) → P other (old.sessions other)) → (session : ℕ) →
@@ -70,6 +73,7 @@ module _ (server : Server) (old : World) (x : Exchange) (xs : List Exchange) (la
       by false h = let apart = eqb-false x.session session h in
           subst (P session) (sym (e.others session apart)) (others session apart)
 
+  -- after one request the world is ready for the other exchanges
   ready_on : IsReady server e.new xs last
   ready_on = record {
     idle = each (λ i s. s.stage ≡ Idle) refl (λ other apart. ready.idle other);

@@ -24,6 +24,7 @@ use Rattle.spec_server.specs.Exchanges.{Exchange}
 use Rattle.spec_world.specs.Sound.{PutsBasis}
 use Rattle.spec_world.proofs.Stages.{HasLooked}
 
+-- the words that a solve goes on to publish; empty where it publishes none
 abbrev words_of : Worked → Words
 words_of (Ends replied next) = []
 words_of (Publishes pending) = pending.words
@@ -39,6 +40,7 @@ module _ (state : State) (pending : Pending) (looked : List ExactRead) (found : 
     (formed : form_of (Some number_limit) model ≡ Ok form)
     (is_solved : IsSolved model state.budget (handed_by found) solved)
     (reads : x.reads ≡ looked ++ read.Count k ∷ read.Claim k ∷ read.Done k pending.words ∷ []) where
+  -- what a session publishes after a solve with this end is the packed basis of the end
   puts : (end : ExactSolveEnd) → solved.end ≡ end →
       Publishes pending ≡ worked_with state found end (how_by found solved.route) (words_of_end form end) →
       PutsBasis state x k pending.words

@@ -26,9 +26,12 @@ use Rattle.spec_world.proofs.PublishedBases.{puts_basis}
 
 module _ (server : Server) (me : ℕ) (now : List ExactPlace) (state : State) (finished : List Exchange)
     (run : AloneRun server.places opening finished state) (bounded : length now ≤ server.places) where
+  -- the session with the state and the ended requests of this module, at this stage
   abbrev session : Stage → Session
   session stage = record { state = state; stage = stage; finished = finished }
 
+  -- where a session has looked, and puts with some result, the solve is one step of it, with the reads of the look and
+  -- of the put
   put_step : (pending : Pending) (looked reads tried : List ExactRead) (result : Put)
       (l : HasLooked state pending looked) → PutReads server.places pending.words result tried →
       reads ≡ looked ++ tried →
@@ -46,6 +49,7 @@ module _ (server : Server) (me : ℕ) (now : List ExactPlace) (state : State) (f
     };
   }
 
+  -- counting the places for a put leaves what fits the session, which has looked, and the places
   pub put_counted : (pending : Pending) (reads : List ExactRead) → HasLooked state pending reads →
       Moved server me now (session (Puts pending reads)) act.Count
       (put_counted_left server me now (session (Puts pending reads)) pending reads)
@@ -77,6 +81,7 @@ module _ (server : Server) (me : ℕ) (now : List ExactPlace) (state : State) (f
           (record { looked = reads; is_looked = l; all = refl; room = omega arith; low = omega arith })
           (now, (refl, refl), refl) (omega arith) refl refl (λ k words d. cc)
 
+  -- claiming a place for a put leaves what fits the session, which has counted, and the places
   pub claimed_moved : (pending : Pending) (c : ℕ) (reads : List ExactRead) →
       IsClaiming server now state pending c reads →
       Moved server me now (session (Claims pending c reads)) act.Claim
@@ -121,6 +126,7 @@ module _ (server : Server) (me : ℕ) (now : List ExactPlace) (state : State) (f
           ∙ append_assoc h.looked (read.Count c ∷ []) (read.Lost (length now) ∷ [])))
           (now, (refl, refl), refl) (omega arith) refl refl (λ k words d. cc)
 
+  -- writing the words of a put to the claimed place leaves what fits the session and the places
   pub done_moved : (pending : Pending) (k : ℕ) (reads : List ExactRead) →
       IsWriting server me now state pending k reads →
       Moved server me now (session (Writes pending k reads)) act.Done

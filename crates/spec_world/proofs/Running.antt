@@ -15,7 +15,8 @@ use Rattle.spec_world.proofs.Asked.{only_solve_looks}
 use Rattle.spec_world.proofs.Held.{holding, first_act}
 use Rattle.spec_world.proofs.Leading.{look_runs}
 
--- events of session me alone that lead to this end of its ask
+-- Acts of session `me` alone, of which the first asks this, lead from the world `old` to the one in which the request
+-- has ended with these reads, this reply and this state, and the places are `last`.
 pub record RunsTo (server : Server) (old : World) (me : ℕ) (asked : ExactAsk) (reads : List ExactRead)
     (replied : ExactReply) (new : State) (last : List ExactPlace) : Type 0 where
   pub acts : List ExactAct
@@ -25,9 +26,11 @@ pub record RunsTo (server : Server) (old : World) (me : ℕ) (asked : ExactAsk) 
 
 module _ (server : Server) (old : World) (me : ℕ) (there : has_session server me ≡ true)
     (idle : (old.sessions me).stage ≡ Idle) (last : List ExactPlace) where
+  -- the session `me` in the world `old`
   abbrev s : Session
   s = old.sessions me
 
+  -- the act that begins a request is an event of an idle session
   asks_first : (asked : ExactAsk) (begun : Begun) → Begins s.state asked begun → (left : Left) →
       left ≡ begun_left me old.places s asked begun →
       (end : ExactEnd) × WorldStep server old (by_session me (act.Ask asked)) end
@@ -39,6 +42,7 @@ module _ (server : Server) (old : World) (me : ℕ) (there : has_session server 
             (subst (λ stage. Leaves server me old.places s stage (act.Ask asked) left) (sym idle) (begun, b, e)),
       )
 
+  -- a request that is answered at once is a run of its session's events
   replies_run : (asked : ExactAsk) (replied : ExactReply) (next : State) →
       Begins s.state asked (step.Answers replied next) → RunsTo server old me asked [] replied next old.places
   replies_run asked replied next b =
@@ -46,6 +50,7 @@ module _ (server : Server) (old : World) (me : ℕ) (there : has_session server 
       (begun_left me old.places s asked (step.Answers replied next)) refl in
       record { acts = []; run = (f.0, _, f.1, refl) }
 
+  -- a solve that looks for a basis, whose reads the places answer, is a run of its session's events
   looks_run : (shape : List ℕ) (reads : List ExactRead) (replied : ExactReply) (new : State) →
       Begins s.state solve (Looks shape) → LookStep server.places s.state shape reads replied new →
       Plays server.places old.places (logged me reads) last → RunsTo server old me solve reads replied new last
@@ -55,6 +60,7 @@ module _ (server : Server) (old : World) (me : ℕ) (there : has_session server 
       new l.look l.worked l.works l.concludes plays in
       record { acts = g.acts; run = (f.0, _, f.1, g.run (by_session me (act.Ask solve) ∷ [])) }
 
+  -- a request, however it begins, whose reads the places answer, is a run of its session's events
   goes_run : (asked : ExactAsk) (begun : Begun) (reads : List ExactRead) (replied : ExactReply) (new : State) →
       Begins s.state asked begun → GoesOn server.places s.state begun reads replied new →
       Plays server.places old.places (logged me reads) last → RunsTo server old me asked reads replied new last
@@ -69,6 +75,7 @@ module _ (server : Server) (old : World) (me : ℕ) (there : has_session server 
       subst (λ a. RunsTo server old me a reads replied new last) (sym same)
       (looks_run shape reads replied new (subst (λ a. Begins s.state a (Looks shape)) same b) g plays)
 
+  -- a step of an idle session, whose reads the places answer, is a run of the session's events in a world
   pub step_runs : (asked : ExactAsk) (reads : List ExactRead) (replied : ExactReply) (new : State) →
       AloneStep server.places s.state asked reads replied new →
       Plays server.places old.places (logged me reads) last → RunsTo server old me asked reads replied new last

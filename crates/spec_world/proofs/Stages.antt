@@ -21,7 +21,8 @@ use Rattle.spec_world.specs.World.{Server, Stage, Idle, Counts, Sees, Solving, P
 
 -- ---- looks
 
--- these are the first reads of a look that goes on below place k
+-- these are the first reads of a look for this shape, which goes on below place k: with any reads from there down they
+-- are a whole look
 pub record LooksTo (shape : List ℕ) (k : ℕ) (reads : List ExactRead) : Type 0 where
   pub more : (rest : List ExactRead) (found : Looked) → SeesDown shape k rest found →
       LookReads shape (reads ++ rest) found
@@ -61,7 +62,7 @@ looks_over shape k words e f rest found d =
 
 -- ---- stages
 
--- a basis is to be published, after this look
+-- a solve began with a look that made these reads, and its work goes on to publish these words
 pub record HasLooked (state : State) (pending : Pending) (looked : List ExactRead) : Type 0 where
   pub shape : List ℕ
   pub found : Looked
@@ -69,17 +70,20 @@ pub record HasLooked (state : State) (pending : Pending) (looked : List ExactRea
   pub look : LookReads shape looked found
   pub works : Works state found (Publishes pending)
 
+-- a solve began with a look for this shape, whose reads have come down to place k, which is claimed and comes next
 pub record IsSeeing (now : List ExactPlace) (state : State) (shape : List ℕ) (k : ℕ)
     (reads : List ExactRead) : Type 0 where
   pub begins : Begins state solve (Looks shape)
   pub look : LooksTo shape (suc k) reads
   pub below : k < length now
 
+-- a solve began with a look, which has ended with these reads and found this
 pub record IsSolving (state : State) (found : Looked) (reads : List ExactRead) : Type 0 where
   pub shape : List ℕ
   pub begins : Begins state solve (Looks shape)
   pub look : LookReads shape reads found
 
+-- a basis is to be published after a look, and then c places were counted, fewer than all; at least c are claimed now
 pub record IsClaiming (server : Server) (now : List ExactPlace) (state : State) (pending : Pending) (c : ℕ)
     (reads : List ExactRead) : Type 0 where
   pub looked : List ExactRead
@@ -88,6 +92,8 @@ pub record IsClaiming (server : Server) (now : List ExactPlace) (state : State) 
   pub room : c < server.places
   pub low : c ≤ length now
 
+-- a basis is to be published after a look, and then k places were counted and place k claimed, which is the session's
+-- still
 pub record IsWriting (server : Server) (me : ℕ) (now : List ExactPlace) (state : State) (pending : Pending) (k : ℕ)
     (reads : List ExactRead) : Type 0 where
   pub looked : List ExactRead
@@ -96,6 +102,7 @@ pub record IsWriting (server : Server) (me : ℕ) (now : List ExactPlace) (state
   pub room : k < server.places
   pub mine : place_at now k ≡ Some (Claimed me)
 
+-- the stage of session `me` fits its state and the places `now`: what it has read and claimed is what the stage says
 abbrev pub StageFits : Server → ℕ → List ExactPlace → State → Stage → Type 0
 StageFits server me now state Idle = Unit {0}
 StageFits server me now state (Counts shape) = Begins state solve (Looks shape)

@@ -29,6 +29,7 @@ use Rattle.spec_world.proofs.Publishers.{publisher_stays}
 
 -- ---- what the reads of one session leave
 
+-- these reads, each as one of session `me`
 abbrev log_of : ℕ → List ExactRead → List Logged
 log_of me made = logged me made
 
@@ -99,6 +100,9 @@ asks_in-append session xs y =
 
 -- ---- what holds of every world
 
+-- What events keep: each session is a run of its own and its stage fits, no more than all places are claimed, one log
+-- of all reads is answered by the places, each session's reads and requests are those of the log and of the events, and
+-- each done place has a session that published it.
 pub record IsGood (server : Server) (world : World) : Type 0 where
   pub run : (session : ℕ) →
       AloneRun server.places opening (world.sessions session).finished (world.sessions session).state
@@ -141,13 +145,16 @@ taken server old event end new good t =
 
 module _ (server : Server) (old : World) (event : ExactEvent) (end : ExactEnd) (new : World)
     (good : IsGood server old) (t : Takes server old event end new) where
+  -- the session of the event
   me : ℕ
   me = event.session
 
+  -- in a good world, what the event's act leaves fits its session, its reads and the places
   moved : Moved server event.session old.places (old.sessions event.session) event.act t.left
   moved = taken server old event end new good t
 
-  -- for the session of the event, and for each other one
+  -- what holds of the session that the act leaves, and of each other session as it was, holds of each session of the
+  -- new world
   each : (P : ℕ → Session → Type 0) → P event.session t.left.session →
       ((other : ℕ) → (event.session ≡ other → ⊥) → P other (old.sessions other)) → (session : ℕ) →
       P session (new.sessions session)
@@ -159,6 +166,7 @@ module _ (server : Server) (old : World) (event : ExactEvent) (end : ExactEnd) (
       by false e = let apart = eqb-false event.session session e in
           subst (P session) (sym (t.others session apart)) (others session apart)
 
+  -- the stage of each other session fits the places after the event
   others_stage : (other : ℕ) → (event.session ≡ other → ⊥) →
       StageFits server other t.left.places (old.sessions other).state (old.sessions other).stage
   others_stage other apart =
@@ -168,9 +176,11 @@ module _ (server : Server) (old : World) (event : ExactEvent) (end : ExactEnd) (
       (place.Claimed other) moved.answered (λ e. apart (let z : other ≡ event.session = cc in sym z)) at)
       (good.stage other)
 
+  -- the log of the old world with the event's reads behind it
   abbrev new_log : List Logged
   new_log = good.log ++ log_of event.session t.left.reads
 
+  -- after the event each session's reads are those in the log with the event's read
   new_reads : (session : ℕ) → reads_of (new.sessions session) ≡ reads_in session new_log
   new_reads =
       each (λ i s. reads_of s ≡ reads_in i new_log)
@@ -181,6 +191,7 @@ module _ (server : Server) (old : World) (event : ExactEvent) (end : ExactEnd) (
       ∙ ap (λ rs. reads_in other good.log ++ rs) (sym (other_reads event.session other t.left.reads apart))
       ∙ sym (reads_in-append other good.log (log_of event.session t.left.reads)))
 
+  -- after the event each session's asks are those of the events with this one
   new_asks : (session : ℕ) → asks_of (new.sessions session) ≡ asks_in session new.events
   new_asks session =
       each (λ i s. asks_of s ≡ asks_in i (old.events ++ event ∷ []))
@@ -194,7 +205,7 @@ module _ (server : Server) (old : World) (event : ExactEvent) (end : ExactEnd) (
       session
       ∙ ap (asks_in session) (sym t.events)
 
-  -- a session's published basis stays its own
+  -- where a session published words at place k before an event, it is their publisher after the event too
   publisher : (k : ℕ) (words : List ℕ) (session : ℕ) → IsPublisher server.places (old.sessions session) k words →
       IsPublisher server.places (new.sessions session) k words
   publisher k words session =
@@ -204,6 +215,7 @@ module _ (server : Server) (old : World) (event : ExactEvent) (end : ExactEnd) (
       (λ other apart p. p)
       session
 
+  -- after the event each done place has a session that published it
   new_published : (k : ℕ) (words : List ℕ) → place_at new.places k ≡ Some (place.Done words) →
       (session : ℕ) × IsPublisher server.places (new.sessions session) k words
   new_published k words at =
@@ -219,6 +231,7 @@ module _ (server : Server) (old : World) (event : ExactEvent) (end : ExactEnd) (
             (moved.published k words e),
       )
 
+  -- an event's act leads from a good world to a good world
   taken_good : IsGood server new
   taken_good = record {
     run = each (λ i s. AloneRun server.places opening s.finished s.state) moved.run (λ other apart. good.run other);

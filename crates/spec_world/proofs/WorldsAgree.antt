@@ -6,6 +6,7 @@ use Rattle.spec_truth.proofs.Agreement.{runs_agree}
 use Rattle.spec_world.specs.World.{Server, ExactEvent, World, opening_world, WorldRun}
 use Rattle.spec_world.proofs.Worlds.{worlds_sound}
 
+-- in two worlds in which a session has ended the same requests, and memory did not run out for it, its answers agree
 pub worlds_agree : (server server' : Server) (events events' : List ExactEvent) (world world' : World) (session : ℕ) →
     WorldRun server opening_world events world → WorldRun server' opening_world events' world' →
     map (λ (x : Exchange). x.ask) (world.sessions session).finished

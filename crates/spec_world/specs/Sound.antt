@@ -26,12 +26,13 @@ use Rattle.spec_world.specs.World.{Claims, Writes, Session, World, solve}
 
 -- ---- what a session was asked and what it read
 
--- the request that a session is answering: none while it is idle, and else a solve
+-- the list of the request that a session is answering at this stage: the one to solve; empty while it is idle
 abbrev pub going : Stage → List ExactAsk
 going Idle = []
 going other = solve ∷ []
 
--- what a session read of the board for the request that it is answering
+-- what a session read of the board, or claimed there, for the request that it is answering, in order; empty while it is
+-- idle, or has not yet counted
 abbrev pub reads_so_far : Stage → List ExactRead
 reads_so_far Idle = []
 reads_so_far (Counts shape) = []
@@ -49,12 +50,12 @@ asks_of s = map (λ x. x.ask) s.finished ++ going s.stage
 abbrev pub reads_of : Session → List ExactRead
 reads_of s = flat_map (λ x. x.reads) s.finished ++ reads_so_far s.stage
 
--- the requests of a session among events
+-- the list of the request that an act asks; empty for any other act
 abbrev pub asks_by : ExactAct → List ExactAsk
 asks_by (act.Ask asked) = asked ∷ []
 asks_by other = []
 
--- the commands that were asked of this session, in the order of the events
+-- the requests that events ask of this session, in order
 abbrev pub asks_in : ℕ → List ExactEvent → List ExactAsk
 asks_in session events = flat_map (λ e. if e.session == session then asks_by e.act else []) events
 
@@ -110,17 +111,17 @@ pub record IsSound (server : Server) (world : World) : Type 0 where
 
 -- ---- events
 
--- the model of an event's request may be kept, and the numbers of its edit are ones that a kept model may have
+-- if the act is a request, a model that it loads is a usual one, and the numbers of its edit may be kept
 abbrev pub IsKeptAct : ExactAct → Type 0
 IsKeptAct (act.Ask asked) = IsKeptAsk asked
 IsKeptAct other = Unit {0}
 
--- the models and edits of the events' requests may be kept
+-- each model that the events' requests load is a usual one, and the numbers of each edit may be kept
 abbrev pub AreKeptEvents : List ExactEvent → Type 0
 AreKeptEvents events = AllByRecursion (λ e. IsKeptAct e.act) events
 
--- The event made these reads, one at most. They stand behind those of its session, each answered by the places as they
--- were at the event, and nothing else befell the sessions and the places.
+-- The event made these reads, one at most. They stand behind those of its session, and the places answer them as they
+-- were before the event. The places change by them alone, and no other session changes.
 pub record ReadsNow (server : Server) (old : World) (event : ExactEvent) (new : World) : Type 0 where
   pub made : List ExactRead
   pub few : length made ≤ 1
@@ -128,7 +129,8 @@ pub record ReadsNow (server : Server) (old : World) (event : ExactEvent) (new : 
   pub answered : Plays server.places old.places (logged event.session made) new.places
   pub others : (other : ℕ) → (event.session ≡ other → ⊥) → new.sessions other ≡ old.sessions other
 
--- a request of the session has ended with this reply
+-- from `old` to `new` the session has ended one request more: its exchange is the last, with this reply, and the
+-- session is idle
 pub record EndsAsk (old : Session) (replied : ExactReply) (new : Session) : Type 0 where
   pub exchange : Exchange
   pub finished : new.finished ≡ old.finished ++ exchange ∷ []

@@ -5,7 +5,7 @@ use Rattle.spec_server.specs.Exchanges.{Exchange}
 use Rattle.spec_world.specs.declared.event.Act.TheVariants as act
 use Rattle.spec_world.specs.World.{Server, ExactAct, ExactEvent, Idle, World, WorldRun, has_session}
 
--- an act of a session
+-- the event of an act of this session
 abbrev pub by_session : ℕ → ExactAct → ExactEvent
 by_session session a = record { session = session; act = a }
 

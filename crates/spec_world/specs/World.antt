@@ -19,15 +19,15 @@ use Rattle.spec_world.specs.declared.event.Event.{Event}
 use Rattle.spec_world.specs.declared.event.StepEnd.{StepEnd}
 use Rattle.spec_world.specs.declared.event.StepEnd.TheVariants.{Quiet, Replied, Not}
 
--- an act, with exact requests
+-- an act of a session, whose requests have models, certificates and edits of exact numbers
 abbrev pub ExactAct : Type 0
 ExactAct = Act ExactAsk
 
--- an event, with exact requests
+-- an event, whose requests have models, certificates and edits of exact numbers
 abbrev pub ExactEvent : Type 0
 ExactEvent = Event ExactAsk
 
--- what comes of an event, with exact replies
+-- what comes of an event, with exact replies: it was not taken, it was quiet, or a request ended with a reply
 abbrev pub ExactEnd : Type 0
 ExactEnd = StepEnd ExactReply
 
@@ -40,17 +40,17 @@ pub record Server : Type 0 where
 pub data Stage : Type 0 where
   -- no ask is being answered
   Idle : Stage
-  -- a look for this shape begins
+  -- a look for a basis of this shape begins, with the count of the claimed places
   Counts : (shape : Words) → Stage
-  -- it goes on with this place
+  -- the look goes on with this place
   Sees : (shape : Words) → (place : ℕ) → (reads : List ExactRead) → Stage
-  -- it has ended
+  -- the look has ended with what it found, and the solve's work is next
   Solving : (found : Looked) → (reads : List ExactRead) → Stage
-  -- a put begins
+  -- publishing the solve's words begins, with the count of the claimed places
   Puts : (pending : Pending) → (reads : List ExactRead) → Stage
-  -- so many places were claimed
+  -- publishing counted so many claimed places, and claims the next one
   Claims : (pending : Pending) → (count : ℕ) → (reads : List ExactRead) → Stage
-  -- this place is the session's
+  -- the session has claimed this place, and writes its words there
   Writes : (pending : Pending) → (place : ℕ) → (reads : List ExactRead) → Stage
 
 -- a session: what it holds, where it is, and its requests that have ended, with their reads and replies
@@ -65,11 +65,11 @@ pub record World : Type 0 where
   pub places : List ExactPlace
   pub events : List ExactEvent
 
--- a session that was asked nothing yet
+-- a session that was asked nothing yet: idle, in the opening state, without exchanges
 abbrev pub opening_session : Session
 opening_session = record { state = opening; stage = Idle; finished = [] }
 
--- the world before all events
+-- the world before all events: each session was asked nothing yet, and no place is claimed
 abbrev pub opening_world : World
 opening_world = record { sessions = λ session. opening_session; places = []; events = [] }
 
@@ -86,7 +86,7 @@ fits_stage (Claims pending c reads) act.Claim = true
 fits_stage (Writes pending k reads) act.Done = true
 fits_stage stage other = false
 
--- whether a server has a session of this number
+-- whether a server has a session of this number: one from 1 to the number of its sessions
 abbrev pub has_session : Server → ℕ → Bool
 has_session server session = nat_lt 0 session && nat_le session server.sessions
 
@@ -116,23 +116,25 @@ ended me s asked reads replied next = record {
   finished = s.finished ++ record { session = me; ask = asked; reads = reads; reply = replied } ∷ [];
 }
 
--- the session at another stage of its request
+-- the session s at this stage of its request; its state and its ended requests stay
 abbrev pub at_stage : Session → Stage → Session
 at_stage s stage = record s { stage = stage }
 
--- what the begin of a request leaves: its reply, or a look that begins
+-- what the beginning of a request leaves: the session idle with its reply, or at a look that begins; no read, and the
+-- places as before
 abbrev pub begun_left : ℕ → List ExactPlace → Session → ExactAsk → Begun → Left
 begun_left me now s asked (Answers replied next) =
     record { session = ended me s asked [] replied next; places = now; reads = []; replied = Some replied }
 begun_left me now s asked (Looks shape) =
     record { session = at_stage s (Counts shape); places = now; reads = []; replied = None }
 
--- a look that has come down to place k - 1
+-- the stage of a look once the places from k on were passed over: at place k - 1, or at its end, with nothing found
 abbrev pub looking : Words → ℕ → List ExactRead → Stage
 looking shape zero reads = Solving None reads
 looking shape (suc k) reads = Sees shape k reads
 
--- what the count of a look leaves
+-- what the count at the start of a look leaves: the look is at the newest claimed place,
+-- or has ended where there is none
 abbrev pub counted_left : List ExactPlace → Session → Words → Left
 counted_left now s shape = record {
   session = at_stage s (looking shape (length now) (read.Count (length now) ∷ []));
@@ -141,12 +143,14 @@ counted_left now s shape = record {
   replied = None;
 }
 
--- what a look-up for a shape reads of place k: the words that it may see, or that the place is not done
+-- what a look-up for a shape reads of place k, which is `Some` if it is claimed: of a done place all words if they have
+-- the shape, else those in front; of any other that it is not done
 abbrev pub read_of : Words → ℕ → Option ExactPlace → ExactRead
 read_of shape k (Some (place.Done words)) = read.Seen k (shown shape words)
 read_of shape k other = read.NotDone k
 
--- where the look is after it
+-- the stage of a look after its read of place k: ended with this place where it is done with the shape, else at the
+-- next one down
 abbrev pub seen_stage : Words → ℕ → List ExactRead → ExactRead → Stage
 seen_stage shape k reads (read.Seen j words) =
     if has_shape shape words then Solving (Some (record { place = k; words = words })) reads else looking shape k reads
@@ -161,7 +165,7 @@ seen_left now s shape k reads made = record {
   replied = None;
 }
 
--- what a solve leaves: its reply, or words that are to be published
+-- what the work of a solve leaves: its reply, or words that are to be published
 abbrev pub worked_left : ℕ → List ExactPlace → Session → List ExactRead → Worked → Left
 worked_left me now s reads (Ends replied next) =
     record { session = ended me s solve reads replied next; places = now; reads = []; replied = Some replied }
@@ -190,7 +194,8 @@ put_counted_left server me now s pending reads =
       replied = None;
     }
 
--- what the claim of a place leaves: the place, or the reply where another session was quicker
+-- what the claim of place c leaves, where c places were counted: the place as claimed by `me`; or, where more are
+-- claimed by now, the solve's reply
 abbrev pub claimed_left : ℕ → List ExactPlace → Session → Pending → ℕ → List ExactRead → Left
 claimed_left me now s pending c reads =
     if length now == c
@@ -202,12 +207,13 @@ claimed_left me now s pending c reads =
     }
     else put_left me now s pending reads (read.Lost (length now)) (Raced (length now))
 
--- what the write of place k leaves
+-- what the write of place k leaves: the place is done with the words, and the solve's reply is given
 abbrev pub done_left : ℕ → List ExactPlace → Session → Pending → ℕ → List ExactRead → Left
 done_left me now s pending k reads =
     put_left me (with_place now k (place.Done pending.words)) s pending reads (read.Done k pending.words) (Published k)
 
--- what an act of the session of number `me` may leave, by how far the session is with its request
+-- An act of the session of number `me` at this stage may leave this; an act of another kind than the stage's next one
+-- leaves nothing. A `See` of any place leaves the read of the stage's place; `fits_stage` asks that they are the same.
 abbrev pub Leaves : Server → ℕ → List ExactPlace → Session → Stage → ExactAct → Left → Type 0
 Leaves server me now s Idle (act.Ask asked) left =
     (begun : Begun) × Begins s.state asked begun × (left ≡ begun_left me now s asked begun)
@@ -223,12 +229,13 @@ Leaves server me now s stage other left = ⊥
 
 -- ---- steps and runs
 
--- what comes of an act, by the reply that it ended a request with
+-- the end of an act that is taken: with the reply of the request that it ended, or quiet where it ended none
 abbrev pub end_of : ℕ → Option ExactReply → ExactEnd
 end_of session None = Quiet
 end_of session (Some replied) = Replied session replied
 
--- an enabled event: its session and the places are what the act leaves, and all other sessions stay as they are
+-- The event is taken: its session and the places are what the act leaves, all other sessions stay, the event is the
+-- last one, and its end is as the act has it.
 pub record Takes (server : Server) (old : World) (event : ExactEvent) (end : ExactEnd) (new : World) : Type 0 where
   pub left : Left
   pub leaves : Leaves server event.session old.places (old.sessions event.session)
@@ -239,7 +246,7 @@ pub record Takes (server : Server) (old : World) (event : ExactEvent) (end : Exa
   pub events : new.events ≡ old.events ++ event ∷ []
   pub ends : end ≡ end_of event.session left.replied
 
--- an event that is not enabled leaves all as it is
+-- one event, by whether it is enabled: it is taken if it is; else it ends as not taken, and the world stays
 abbrev pub StepBy : Bool → Server → World → ExactEvent → ExactEnd → World → Type 0
 StepBy true server old event end new = Takes server old event end new
 StepBy false server old event end new = (end ≡ Not) × (new ≡ old)
@@ -248,7 +255,7 @@ StepBy false server old event end new = (end ≡ Not) × (new ≡ old)
 abbrev pub WorldStep : Server → World → ExactEvent → ExactEnd → World → Type 0
 WorldStep server old event end new = StepBy (is_enabled server old event) server old event end new
 
--- from old, event by event, to new
+-- the events, one after the other, lead from the world `old` to `new`; one that is not enabled changes nothing
 abbrev pub WorldRun : Server → World → List ExactEvent → World → Type 0
 WorldRun server old [] new = new ≡ old
 WorldRun server old (event ∷ events) new =

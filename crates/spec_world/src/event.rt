@@ -5,19 +5,19 @@
 pub enum Act<A> {
     /// It begins an ask, and ends it unless it looks for a basis.
     Ask(A),
-    /// It reads how many places are claimed.
+    /// It reads how many places are claimed. Where it is about to publish and all are claimed, it ends the ask.
     Count,
     /// It reads this place.
     See(u32),
     /// It solves, and ends the ask unless it publishes a basis.
     Work,
-    /// It claims a place.
+    /// It claims the next place. Where another session was quicker, it ends the ask without one.
     Claim,
-    /// It writes its place, and ends the ask.
+    /// It writes its basis into the place that it claimed, and ends the ask.
     Done,
 }
 
-/// An act of a session.
+/// An act of one session, with the session's number.
 #[derive(Drop)]
 pub struct Event<A> {
     pub session: u32,

@@ -35,13 +35,15 @@ mod event;
 
 pub use event::{Act, Event, StepEnd};
 
-/// Over every list of events, what each session was asked, read and replied is a run of the one-session machine.
+/// Over every list of events, what each session was asked, read and replied is a run of the one-session machine. All
+/// reads stand in one order, in which the places answer each as they are then.
 pub fn sessions_run_alone()
     ensures { (server : Server) (events : List ExactEvent) (world : World) →
         WorldRun server opening_world events world → IsSound server world }
 {}
 
-/// Each read is answered by the places as they are at its event.
+/// An event makes one read of the places at most, and these answer it as they are at that event. No other session
+/// changes.
 pub fn reads_are_answered()
     ensures { (server : Server) (events : List ExactEvent) (old : World) (event : ExactEvent) (end : ExactEnd)
         (new : World) →
@@ -56,7 +58,7 @@ pub fn done_places_stay()
         place_at old.places k ≡ Some (place.Done words) → place_at new.places k ≡ Some (place.Done words) }
 {}
 
-/// Where the models that sessions are asked to hold may be kept, each place that is done has the well-formed words of a
+/// Where the models and edits that events ask for may be kept, each place that is done has the well-formed words of a
 /// basis.
 pub fn done_places_are_well_formed()
     ensures { (server : Server) (events : List ExactEvent) (world : World) (k : ℕ) (words : Words) →
@@ -80,8 +82,9 @@ pub fn events_happen()
         (end : ExactEnd) × (new : World) × WorldStep server old event end new }
 {}
 
-/// In two worlds a session that was asked the same replied the same, but for `HOW`, certificates, and answers in place
-/// of a refused operation or of a spent budget. The worlds may be of two servers.
+/// In two worlds, perhaps of two servers, a session that was asked the same replied the same, if memory ran out for it
+/// in neither. Replies may differ to `HOW` and `CERT`; one may answer where the other is `PAST` or `SPENT`; and of two
+/// exact solves one may be `OPEN`, or their lines behind the first may differ.
 pub fn replies_agree()
     ensures { (server server' : Server) (events events' : List ExactEvent) (world world' : World) (session : ℕ) →
         WorldRun server opening_world events world → WorldRun server' opening_world events' world' →
@@ -91,8 +94,8 @@ pub fn replies_agree()
         RepliesAgree (world.sessions session).finished (world'.sessions session).finished }
 {}
 
-/// What sessions may reply whose requests are answered one after the other, with their reads, is exactly what a world
-/// replies in which the events of each request stand together.
+/// Exchanges of the server's sessions that are answered one after the other are those of a world in which the events of
+/// each request stand together. Those of such a world are answered so.
 pub fn one_worker_is_a_world()
     ensures worlds { (server : Server) (xs : List Exchange) → RunFits server.places xs → HaveSessions server xs →
         (world : World) × Together server opening_world xs world }
