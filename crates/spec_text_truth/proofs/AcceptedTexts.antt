@@ -93,6 +93,8 @@ module _ (style : Style) (lines : List (Line (List ℕ))) (m : Model) (after : L
   kept : IsModel m
   kept = (usual_from_within m (spelled_kept usual_limits style own m begins.spelled)).0
 
+  -- behind the model's text, the certificate's lines of an answer that may be given, with any bytes behind, make
+  -- `check` say yes to it
   known_accepted : (budget : ℕ) (what : Known ℚ) (cert : Certificate (List ℚ)) (basis : Option (List Status))
       (pivots : ℕ) → MayAnswer m budget (Ended what cert basis pivots) → (more : List ℕ) →
       said style (own ++ ended_lines_of (ended_lines (certificate_lines m cert) ++ more))
@@ -110,13 +112,15 @@ module _ (style : Style) (lines : List (Line (List ℕ))) (m : Model) (after : L
       ∙ ap (λ settled. Some (verdict_on m settled)) r.settled
       ∙ ap (λ run. Some (reply.Checked (verdict_of run))) h.2
 
+  -- of an end that may be answered, the lines that `solve` writes are accepted behind the model's text
   accepted : (budget : ℕ) (end : ExactSolveEnd) → MayAnswer m budget end →
       IsAccepted style own (answer_of budget end) (ended_lines (lines_of_solved m end))
   accepted budget (Ended what cert basis pivots) h = known_accepted budget what cert basis pivots h
   accepted budget (Past p) h = tt
   accepted budget Spent h = tt
 
-  -- also with other bytes behind them
+  -- of an end that may be answered, the lines that `solve` writes, with any bytes behind them, are accepted behind the
+  -- model's text
   accepted_before : (budget : ℕ) (end : ExactSolveEnd) (final : List ℕ) → MayAnswer m budget end →
       IsAccepted style own (answer_of budget end) (ended_lines (lines_of_solved m end) ++ final)
   accepted_before budget (Ended what cert basis pivots) final h = λ more.
@@ -128,6 +132,8 @@ module _ (style : Style) (lines : List (Line (List ℕ))) (m : Model) (after : L
 
   -- ---- what `solve` writes
 
+  -- `solve` writes the line of an answer, and then lines that `check` accepts behind the text for this answer, if it is
+  -- a known one
   pub solve_accepted : (written : List ℕ) → SolveOut (Ok m) written →
       (a : ExactReply) × (behind : List ℕ) × (written ≡ reply_text a ++ 10 ∷ behind)
       × IsAccepted style own a behind
@@ -140,6 +146,8 @@ module _ (style : Style) (lines : List (Line (List ℕ))) (m : Model) (after : L
 
   -- ---- what `presolve` writes
 
+  -- `presolve` writes the line of its way, that of an answer, and then lines that `check` accepts behind the text for
+  -- this answer, if it is a known one
   pub presolve_accepted : (written : List ℕ) → PresolveOut (Ok m) written →
       (way : Way ℚ) × (a : ExactReply) × (behind : List ℕ)
       × (written ≡ way_line way ++ (reply_text a ++ 10 ∷ behind)) × IsAccepted style own a behind
@@ -180,7 +188,8 @@ front_no_feed solved =
     (tested_no_feed (codes " PIVOTS ") refl))
     (pivots_no_feed (pivots_of_solved solved.end))
 
--- `basis` writes an answer's line, one more line, and then lines that `check` accepts for this answer
+-- `basis` writes an answer's line, one more line, and then lines that `check` accepts behind the text for this answer,
+-- if it is a known one
 pub basis_accepted : (style : Style) (lines : List (Line (List ℕ))) (handed : Handed) (written : List ℕ)
     (h : AreHanded usual_limits style lines handed) → BasisOut (Ok handed) written →
     (a : ExactReply) × (how behind : List ℕ)

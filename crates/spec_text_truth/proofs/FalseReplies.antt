@@ -76,6 +76,8 @@ asked_first after told h = by (first h)
 module _ (loaded solved certified changed again : Told) (more : List Told)
     (asks : AreFirstOf (map (λ (x : Told). x.asked) (loaded ∷ solved ∷ certified ∷ changed ∷ again ∷ more)) askings)
     (ok : changed.line ≡ codes "OK") where
+  -- the model that is told of the session at the last reply is the example's, with -6 as the right side of its
+  -- objective
   model_is : model_told again.asked.session (loaded ∷ solved ∷ certified ∷ changed ∷ []) ≡ Some (model_with (negsuc 5))
   unfolding edited with_right_side
   model_is =
@@ -97,6 +99,7 @@ module _ (loaded solved certified changed again : Told) (more : List Told)
       ∷ of_asked keeps solved.line solved.behind ∷ of_asked keeps certified.line certified.behind ∷ x ∷ []))
       (told_is changed (edits (edit.SetRhs (codes "COST") (whole (negsuc 5)))) (codes "OK") (sym four) ok)
 
+  -- after the edit, the line `OPTIMAL 5` is no true reply to the solve
   stale : again.line ≡ codes "OPTIMAL 5" →
       IsTrueReply (loaded ∷ solved ∷ certified ∷ changed ∷ []) again → ⊥
   stale is true_then =

@@ -65,7 +65,7 @@ place_is m at same e =
     sym (ap (λ (m : Model). place_by RightSide m (codes "ROW")) same) ∙ e in
     cc
 
--- with −1 in the place of the right side there is no optimum
+-- the model has an optimal value with -1 as the right side of the row of number `at`
 abbrev HasOptimum : Model → ℕ → Type 0
 HasOptimum m at = (v : ℚ) × IsOptimal (with_number RightSide m at (whole (negsuc 0))) v
 

@@ -65,6 +65,8 @@ asked_first after told h = by (first h)
 -- the model that was told then
 module _ (loaded solved : Told) (more : List Told)
     (asks : AreFirstOf (map (λ (x : Told). x.asked) (loaded ∷ solved ∷ more)) askings) where
+  -- the model that is told of the session at the wide solve is the example's, with -5 as the right side of its
+  -- objective
   model_is : model_told solved.asked.session (loaded ∷ []) ≡ Some (model_with (negsuc 4))
   model_is =
       let e = asks.1 in
@@ -73,6 +75,7 @@ module _ (loaded solved : Told) (more : List Told)
       ap (λ (session : ℕ). model_told session (loaded ∷ [])) (ap (λ (a : Asking). a.session) (sym two))
       ∙ ap (λ (x : Told). model_told 0 (x ∷ [])) (told_is loaded (loads (model_with (negsuc 4))) loaded.line (sym one) refl)
 
+  -- the line `OPTIMAL 6` behind `WIDE 4` is no true reply to the wide solve
   false : (lines : List (List ℕ)) → solved.line ≡ codes "WIDE 4" → solved.behind ≡ codes "OPTIMAL 6" ∷ lines →
       IsTrueReply (loaded ∷ []) solved → ⊥
   unfolding ended_lines

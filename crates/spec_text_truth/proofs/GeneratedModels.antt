@@ -1,7 +1,7 @@
 -- What `gen` writes: the line of a size and the line of an answer that is shown of the model.
 --
 -- `size_is`: the first line of what `gen` writes has the numbers of rows, columns and entries.
--- `answer_follows`: what `gen` writes is the line of the size, and then one of an answer that is true of the model.
+-- `answer_follows`: what `gen` writes begins with the line of the size and one of an answer that is true of the model.
 use Rattle.std.proofs.Common.{◌≡◌, ℕ, false, List, [], ◌∷◌, ◌++◌, refl, sym, ap, ◌∙◌, append_assoc}
 use Rattle.std.specs.Prelude.{codes, decimal, replicate}
 use Rattle.spec_exact.specs.Fraction.{ℚ, 0ℚ}
@@ -135,15 +135,17 @@ answer_follows seed rows columns written out =
 
 module _ (seed rows columns : ℕ) (written : List ℕ) (out : GenOut seed rows columns written) (size : List ℕ)
     (no_feed : HasNoFeed size) where
+  -- what `gen` writes is the line of a size, and then that of an answer shown of the generated model
   answered : IsSizeAndAnswer (generated seed rows columns) written
   answered = out_answered (generated seed rows columns) written out
 
-  -- the first line is none of an answer
+  -- a line of a size, with which the written bytes begin, does not look like a known answer
   pub size_other : (rest : List ℕ) → written ≡ size ++ 10 ∷ rest → looks_known size ≡ false
   unfolding size_line
   size_other rest e =
       ap looks_known (sym (first_line (generated seed rows columns) written size rest answered no_feed e))
 
+  -- where `gen` writes a line and then `OPTIMAL` and a text, the text reads as the optimal value of the generated model
   pub optimal_follows : (text behind : List ℕ) → HasNoFeed text →
       written ≡ size ++ 10 ∷ (codes "OPTIMAL " ++ text ++ 10 ∷ behind) →
       (v : ℚ) × (number_of text ≡ Is v) × IsOptimal (generated seed rows columns) v
@@ -152,12 +154,14 @@ module _ (seed rows columns : ℕ) (written : List ℕ) (out : GenOut seed rows 
       (second_line (generated seed rows columns) written size (codes "OPTIMAL " ++ text ++ 10 ∷ behind) answered no_feed
       e)
 
+  -- `gen` never writes `INFEASIBLE` as its second line
   pub never_infeasible : (behind : List ℕ) → written ≡ size ++ 10 ∷ (codes "INFEASIBLE" ++ 10 ∷ behind) → ⊥
   never_infeasible behind e =
       infeasible_line (generated seed rows columns) answered.answer answered.behind behind answered.shown
       (second_line (generated seed rows columns) written size (codes "INFEASIBLE" ++ 10 ∷ behind) answered no_feed e)
       (replicate columns 0ℚ) (zero_feasible seed rows columns)
 
+  -- `gen` never writes `UNBOUNDED` as its second line
   pub never_unbounded : (behind : List ℕ) → written ≡ size ++ 10 ∷ (codes "UNBOUNDED" ++ 10 ∷ behind) → ⊥
   never_unbounded behind e =
       bounded seed rows columns

@@ -29,11 +29,13 @@ known_plain None name h = h
 known_plain (Some k) name h = tt
 
 module _ {A : Type 0} where
+  -- where the fault of a first step and that of the next have no name with a line feed, the fault of both has none
   then_plain : {B : Type 0} (r : OrFault B) (next : B → OrFault A) → IfErr r IsPlainFault →
       ((b : B) → IfErr (next b) IsPlainFault) → IfErr (r >>= next) IsPlainFault
   then_plain (Ok b) next h go = go b
   then_plain (Err why) next h go = h
 
+  -- where the faults of two ways have no name with a line feed, the fault of the one that a test takes has none
   choice_plain : (t : Bool) (a b : OrFault A) → IfErr a IsPlainFault → IfErr b IsPlainFault →
       IfErr (cond t a b) IsPlainFault
   choice_plain true a b h k = h

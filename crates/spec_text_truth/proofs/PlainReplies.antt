@@ -324,23 +324,28 @@ module _ (old new : State) (replied : ExactReply) where
   as_stated : (stated : ExactReply) → replied ≡ stated → IsPlainReply stated → IsPlainReply replied
   as_stated stated e h = subst IsPlainReply (sym e) h
 
+  -- the reply to a solve has no name with a line feed
   solve_plain : (held : Option Model) → Does old (solve_due old held) replied new → IsPlainReply replied
   solve_plain None d = as_stated _ d.0 tt
   solve_plain (Some m) d = as_stated _ d.answer (answer_plain old.budget d.end)
 
+  -- the reply to a wide solve has no name with a line feed
   wide_due_plain : (held : Option Model) → Does old (wide_due old held) replied new → IsPlainReply replied
   wide_due_plain None d = as_stated _ d.0 tt
   wide_due_plain (Some m) d = as_stated _ d.answer tt
 
+  -- where the fault of an edit has no name with a line feed, the reply to the edit has none
   edit_plain : (r : OrFault Model) → IfErr r IsPlainFault → Does old (edit_due old r) replied new → IsPlainReply replied
   edit_plain (Ok m) h d = as_stated _ d.0 tt
   edit_plain (Err why) h d = as_stated _ d.0 (refusal_plain why h)
 
+  -- where an edit has no name with a line feed, the reply to it has none
   change_plain : (held : Option Model) (e : ExactEdit) → IsPlainEdit e → Does old (change_due old held e) replied new →
       IsPlainReply replied
   change_plain None e h d = as_stated _ d.0 tt
   change_plain (Some m) e h d = edit_plain (edited m e) (edited_plain m e h) d
 
+  -- where a request has no name with a line feed, and the session's model is usual, the reply that is due has none
   due_plain : (asked : ExactAsk) → IfSome old.model IsUsualModel → IsPlainAsk asked →
       Does old (due old asked) replied new →
       IsPlainReply replied

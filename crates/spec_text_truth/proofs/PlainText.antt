@@ -2,7 +2,7 @@
 --
 -- `tested_no_feed`: a text each of whose bytes is tested to be no line feed has none.
 -- `both_no_feed`: two texts without a line feed have none one behind the other.
--- `either_no_feed`: where two texts have no line feed, either of them has none.
+-- `either_no_feed`: where two texts have no line feed, the one of them that a test takes has none.
 -- `decimal_no_feed`: a number in decimal digits has no line feed.
 -- `wide_no_feed`: the text of a number of any width has no line feed.
 use Rattle.std.proofs.Common.{◌≡◌, ◌≢◌, ℕ, zero, suc, ◌+◌, ◌/◌, ◌%◌, Bool, true, false, cond, not, nat_eq, List, [], ◌∷◌}

@@ -34,12 +34,13 @@ module _ (P : ℕ → Type 0) (p : ℕ → Bool) where
   abbrev Holds : List ℕ → Type 0
   Holds part = All P part
 
+  -- where P holds of b, and of each byte of the parts, it holds of each byte of the parts with b in front of the first
   onto_all : (b : ℕ) (parts : List (List ℕ)) → P b → All Holds parts → All Holds (onto_first b parts)
   onto_all b [] h k = All-cons Holds (b ∷ []) [] (All-cons P b [] h (All-nil P)) (All-nil Holds)
   onto_all b (part ∷ parts) h k =
       All-cons Holds (b ∷ part) parts (All-cons P b part h (All-head Holds part parts k)) (All-tail Holds part parts k)
 
-  -- what holds of each byte at which no part ends
+  -- where P holds of each byte at which no part ends, it holds of each byte of the parts
   split_all : (bytes : List ℕ) → All (λ b. p b ≡ false → P b) bytes → All Holds (slice_split p bytes)
   split_all [] h = All-cons Holds [] [] (All-nil P) (All-nil Holds)
   split_all (b ∷ bytes) h =

@@ -1,8 +1,8 @@
 -- What `presolve` writes of a text that spells a model: the line of the model that was solved, and the line of an answer
 -- that is shown of the model.
 --
--- `presolved_begins`: what `presolve` writes is the line of its way, the line of its answer, and the certificate's
---   lines.
+-- `presolved_begins`: what `presolve` writes is the line of its way, the line of the answer or of why there is none,
+--   and the lines of the certificate, if there is one.
 -- `out_answered`: what `presolve` writes of a model is the line of its way, and then one of an answer that is shown of
 --   it.
 use Rattle.std.proofs.Common.{◌≡◌, ℕ, List, [], ◌∷◌, ◌++◌, Option, Some, Ok, refl, sym, ap, ◌∙◌, subst, append_assoc}
@@ -93,19 +93,25 @@ behind_size (Plain why) rest size other no_feed e = absurd (apart 80 82 refl (ap
 
 module _ (style : Style) (lines : List (Line (List ℕ))) (m : Model) (what : TextSaid) (written : List ℕ)
     (is : text_said style lines ≡ Some what) (out : PresolveOut what written) (spells : Spells style lines m) where
+  -- what `presolve` writes of a text's model is the line of its way, and then that of an answer shown of the model
   told : IsWayAndAnswer m written
   told = answered style lines m what written is out spells
 
+  -- what `presolve` writes of a text's model is the line of its way, and then the line of an answer that is true of the
+  -- model
   pub presolved_answer : (way : Way ℚ) × (a : ExactReply) × (behind : List ℕ)
       × (written ≡ way_line way ++ (reply_text a ++ 10 ∷ behind)) × IsTrueOf m a
   presolved_answer = (told.way, told.answer, told.behind, told.lines, answer_holds m told.answer told.shown)
 
-  -- the answer's line, behind that of a smaller model
+  -- where the written bytes begin with the line of the word REDUCED and a size, the answer's line and what is behind it
+  -- are the rest
   second_line : (size rest : List ℕ) → HasNoFeed size → written ≡ codes "REDUCED " ++ size ++ 10 ∷ rest →
       reply_text told.answer ++ 10 ∷ told.behind ≡ rest
   second_line size rest no_feed e =
       behind_size told.way (reply_text told.answer ++ 10 ∷ told.behind) size rest no_feed (sym told.lines ∙ e)
 
+  -- where `presolve` writes REDUCED and a size, and then `OPTIMAL` and a text, the text reads as the model's optimal
+  -- value
   pub presolved_optimal : (size text behind : List ℕ) → HasNoFeed size → HasNoFeed text →
       written ≡ codes "REDUCED " ++ size ++ 10 ∷ (codes "OPTIMAL " ++ text ++ 10 ∷ behind) →
       (v : ℚ) × (number_of text ≡ Is v) × IsOptimal m v
@@ -113,12 +119,14 @@ module _ (style : Style) (lines : List (Line (List ℕ))) (m : Model) (what : Te
       optimal_line m told.answer text told.behind behind told.shown plain
       (second_line size (codes "OPTIMAL " ++ text ++ 10 ∷ behind) no_feed e)
 
+  -- where `presolve` writes REDUCED and a size, and then `INFEASIBLE`, the model is infeasible
   pub presolved_infeasible : (size behind : List ℕ) → HasNoFeed size →
       written ≡ codes "REDUCED " ++ size ++ 10 ∷ (codes "INFEASIBLE" ++ 10 ∷ behind) → IsInfeasible m
   presolved_infeasible size behind no_feed e =
       infeasible_line m told.answer told.behind behind told.shown
       (second_line size (codes "INFEASIBLE" ++ 10 ∷ behind) no_feed e)
 
+  -- where `presolve` writes REDUCED and a size, and then `UNBOUNDED`, the model is unbounded
   pub presolved_unbounded : (size behind : List ℕ) → HasNoFeed size →
       written ≡ codes "REDUCED " ++ size ++ 10 ∷ (codes "UNBOUNDED" ++ 10 ∷ behind) → IsUnbounded m
   presolved_unbounded size behind no_feed e =

@@ -1,6 +1,6 @@
 -- What `range` writes of a text that spells a model is true of the model.
 --
--- `cut_at`: texts that are the same up to the first byte d of each are the same before it, and behind it.
+-- `cut_at`: equal texts are equal before the first byte d of each, and behind it.
 -- `printed_has_no`: a printed text has no byte of 32 or less.
 -- `texts_said`: where the line of a range is made of three texts, these read as its two ends and its slope.
 -- `range_is`: a range found at the limit of 127 bits has such numbers, and is the range of the number by definition.
@@ -198,6 +198,7 @@ module _ (moved : Moved) (name : Name) (m : Model) (n : IsNarrowModel m) (at : �
     (in_slope : HasNo 10 slope) where
   module _ (basis : List Status) (v : ℚ) (keeps : Keeps m basis) (optimal : IsOptimal m v)
       (says : number_of value ≡ Is v) where
+    -- where the text of a range by a basis is a line of three texts, these are the range of the number
     ranged_says : (f : Form) → form_of (Some number_limit) m ≡ Ok f → (o : Result (Range ℚ) (StartStop ℚ)) →
         range_of moved (Some number_limit) m f basis at ≡ o → ranged_text o ≡ line_with low high slope behind →
         SaysRange moved name m value low high slope
@@ -221,6 +222,8 @@ module _ (moved : Moved) (name : Name) (m : Model) (n : IsNarrowModel m) (at : �
     ranged_says f is (Err (stop.Past p)) q e = absurd (apart 80 82 refl (sym (past_first p) ∙ ap first e))
     ranged_says f is (Err stop.Singular) q e = absurd (apart 0 82 refl (ap first e))
 
+    -- where the text of the range by a basis, if the model has a form, is a line of three texts, these are the range of
+    -- the number
     based_says : (o : Result Form (FormFault ℚ)) → form_of (Some number_limit) m ≡ o →
         based_text moved m basis at o ≡ line_with low high slope behind → SaysRange moved name m value low high slope
     based_says (Ok f) is e = ranged_says f is (range_of moved (Some number_limit) m f basis at) refl e
@@ -229,7 +232,8 @@ module _ (moved : Moved) (name : Name) (m : Model) (n : IsNarrowModel m) (at : �
   abbrev shown_line : List ℕ
   shown_line = codes "OPTIMAL " ++ value ++ 10 ∷ line_with low high slope behind
 
-  -- by the answer, what stands behind it, and the basis that is left
+  -- where the answer's line of a solve's end and the text of its range are the line that was shown, the texts in that
+  -- line say the range of the number
   end_says : (solved : SolveEnd) → IsSolved m opening_budget None solved → (end : ExactSolveEnd) → solved.end ≡ end →
       MayAnswer m opening_budget end →
       reply_text (answer_of opening_budget end) ++ 10 ∷ range_text moved m at end ≡ shown_line →
@@ -286,6 +290,7 @@ module _ (moved : Moved) (name : Name) (m : Model) (written : List ℕ) where
       let same : what ≡ Ok m = cc in
       subst (λ (w : TextSaid). RangeOut moved name w written) same out
 
+  -- where the name has a place, what is written is what `range` may write there
   named_out : (at : ℕ) → place_by moved m name ≡ Some at → Out (place_by moved m name) → RangedOut moved m at written
   named_out at e out = subst (λ (place : Option ℕ). Out place) e out
 
@@ -294,13 +299,14 @@ module _ (moved : Moved) (name : Name) (m : Model) (written : List ℕ) where
   unfolding check_line reply_text
   no_name_first = refl
 
-  -- a line that begins with another letter is an answer's
+  -- where what was written begins with another letter than E, the name has a place, and the bytes are those of a range
+  -- there
   answered_by : (letter : ℕ) → (69 ≡ letter → ⊥) → first written ≡ letter → (place : Option ℕ) → Out place →
       (at : ℕ) × (place ≡ Some at) × RangedOut moved m at written
   answered_by letter other e None out = absurd (other (sym no_name_first ∙ ap first (sym out) ∙ e))
   answered_by letter other e (Some at) out = (at, refl, out)
 
-  -- an answer's line does not begin with it
+  -- where what was written is the line of an unknown name, the name has no place
   named_by : written ≡ check_line (reply.Refused (refusal.Name name)) → (place : Option ℕ) → Out place → place ≡ None
   unfolding reply_text
   named_by e None out = refl
@@ -324,37 +330,45 @@ module _ (style : Style) (lines : List (Line (List ℕ))) (m : Model) (moved : M
   whole : PlaceOut moved name m (place_by moved m name) written
   whole = out_of moved name m written style lines what is out spells
 
+  -- where `range` writes that the name is unknown, nothing of the model has the name
   pub unknown_is : written ≡ check_line (reply.Refused (refusal.Name name)) → place_by moved m name ≡ None
   unknown_is e = named_by moved name m written e (place_by moved m name) whole
 
+  -- where the name has a place, what `range` writes begins with the line of an answer that is true of the model
   pub ranged_answer : (at : ℕ) → place_by moved m name ≡ Some at →
       (a : ExactReply) × (behind : List ℕ) × (written ≡ reply_text a ++ 10 ∷ behind) × IsTrueOf m a
   ranged_answer at e =
       let r = out_answered moved m at written (named_out moved name m written at e whole) in
       (r.answer, r.behind, r.line, answer_holds m r.answer r.shown)
 
-  -- the answer of a line that begins with this letter
+  -- where what was written begins with this letter, which is not E, it begins with the line of an answer shown of the
+  -- model
   answered : (letter : ℕ) → (69 ≡ letter → ⊥) → first written ≡ letter → IsAnswered m written
   answered letter other e =
       let p = answered_by moved name m written letter other e (place_by moved m name) whole in
       out_answered moved m p.0 written p.2
 
+  -- where `range` writes `OPTIMAL` and a text, the text reads as the model's optimal value
   pub ranged_optimal : (text behind : List ℕ) → HasNoFeed text → written ≡ codes "OPTIMAL " ++ text ++ 10 ∷ behind →
       (v : ℚ) × (number_of text ≡ Is v) × IsOptimal m v
   ranged_optimal text behind no_feed e =
       let r = answered 79 (apart 69 79 refl) (ap first e) in
       optimal_line m r.answer text r.behind behind r.shown no_feed (sym r.line ∙ e)
 
+  -- where `range` writes `INFEASIBLE`, the model is infeasible
   pub ranged_infeasible : (behind : List ℕ) → written ≡ codes "INFEASIBLE" ++ 10 ∷ behind → IsInfeasible m
   ranged_infeasible behind e =
       let r = answered 73 (apart 69 73 refl) (ap first e) in
       infeasible_line m r.answer r.behind behind r.shown (sym r.line ∙ e)
 
+  -- where `range` writes `UNBOUNDED`, the model is unbounded
   pub ranged_unbounded : (behind : List ℕ) → written ≡ codes "UNBOUNDED" ++ 10 ∷ behind → IsUnbounded m
   ranged_unbounded behind e =
       let r = answered 85 (apart 69 85 refl) (ap first e) in
       unbounded_line m r.answer r.behind behind r.shown (sym r.line ∙ e)
 
+  -- where `range` writes `OPTIMAL` with a value, and then a range's line of three texts, these are the range of the
+  -- number by a basis that keeps the model
   pub ranged_range : (value low high slope behind : List ℕ) → HasNo 10 value → HasNo 32 low → HasNo 32 high →
       HasNo 10 slope → written ≡ codes "OPTIMAL " ++ value ++ 10 ∷ line_with low high slope behind →
       SaysRange moved name m value low high slope

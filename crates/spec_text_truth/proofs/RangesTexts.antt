@@ -84,7 +84,7 @@ no_text (b ∷ before) text some e = let no : ◌≡◌ {A = List ℕ} [] (b ∷
 fed_some : (text : List ℕ) → IsSome (10 ∷ text)
 fed_some text e = cc
 
--- whole lines are bytes in front of a line feed
+-- a line feed, whole lines and then a text are some bytes, a line feed and then the text
 fed : (before : List (List ℕ)) (text : List ℕ) →
     (front : List ℕ) × (10 ∷ (ended_lines before ++ text) ≡ front ++ 10 ∷ text)
 unfolding ended_lines
@@ -104,6 +104,8 @@ module _ (P : List ℕ → Type 0) where
     is : text ≡ line ++ 10 ∷ more
 
   module _ (plain : (line : List ℕ) → P line → HasNo 10 line) where
+    -- where a line and more lines are some bytes, a line feed and then a text that is not empty, the text begins with
+    -- one of these lines
     behind_feed : (line : List ℕ) (lines : List (List ℕ)) (before text : List ℕ) → HasNo 10 line → All P lines →
         IsSome text → line ++ 10 ∷ ended_lines lines ≡ before ++ 10 ∷ text → Begins text
     behind_feed [] [] [] text h all some e =
@@ -129,6 +131,7 @@ module _ (P : List ℕ → Type 0) where
         let same : line ++ 10 ∷ ended_lines lines ≡ before ++ 10 ∷ text = cc in
         behind_feed line lines before text (All-tail (λ b. b ≢ 10) c line h) all some same
 
+    -- where lines are other lines and then a text that is not empty, the text begins with one of the lines
     behind_lines : (lines before : List (List ℕ)) (text : List ℕ) → All P lines → IsSome text →
         ended_lines lines ≡ ended_lines before ++ text → Begins text
     behind_lines lines before text all some e =
@@ -232,6 +235,7 @@ module _ (m : Model) (h : IsModel m) (n : IsNarrowModel m) (f : Form) (formed : 
   abbrev range_at : Moved → ℕ → Result (Range ℚ) (StartStop ℚ)
   range_at moved at = range_of moved (Some number_limit) m f basis at
 
+  -- no range from a basis that keeps the model is refused as singular
   not_singular : (moved : Moved) (at : ℕ) → range_at moved at ≡ Err stop.Singular → ⊥
   not_singular Cost at =
       let g = cost_gives (Some number_limit) m f formed basis keeps at in never_singular (range_at Cost at) g.0 g.2
@@ -241,12 +245,14 @@ module _ (m : Model) (h : IsModel m) (n : IsNarrowModel m) (f : Form) (formed : 
   abbrev line_at : Moved → ℕ → List ℕ
   line_at moved at = number_words moved (name_by moved m at) ++ bare (range_at moved at)
 
+  -- what `range all` writes of a number is its line and a line feed
   line_is : (moved : Moved) (at : ℕ) → number_line moved m f basis at ≡ line_at moved at ++ 10 ∷ []
   unfolding number_line
   line_is moved at =
       ap (λ bs. number_words moved (name_by moved m at) ++ bs) (bare_is (range_at moved at) (not_singular moved at))
       ∙ sym (append_assoc (number_words moved (name_by moved m at)) (bare (range_at moved at)) (10 ∷ []))
 
+  -- what `range all` writes of the first numbers is their lines, each with its line feed
   lines_are : (moved : Moved) (count : ℕ) → number_lines moved m f basis count ≡ ended_lines (made count (line_at moved))
   unfolding ended_lines
   lines_are moved zero = refl
@@ -259,10 +265,12 @@ module _ (m : Model) (h : IsModel m) (n : IsNarrowModel m) (f : Form) (formed : 
   abbrev IsLine : List ℕ → Type 0
   IsLine line = (moved : Moved) × (at : ℕ) × (at < count_of moved m) × (line ≡ line_at moved at)
 
+  -- the names of a kept model's columns and rows are of printed bytes
   name_printed : (moved : Moved) (at : ℕ) → at < count_of moved m → list_all is_printable (name_by moved m at) ≡ true
   name_printed Cost at l = (name_word (column m at).name (h.columns at no_column l).name).printable
   name_printed RightSide at l = (row_name_word (row m at).name (h.rows at no_row l)).printable
 
+  -- the line of a number has no line feed in it
   line_plain : (line : List ℕ) → IsLine line → HasNo 10 line
   line_plain line (moved, at, l, e) =
       subst (λ (bs : List ℕ). HasNo 10 bs) (sym e)
@@ -280,6 +288,7 @@ module _ (m : Model) (h : IsModel m) (n : IsNarrowModel m) (f : Form) (formed : 
       (All-made IsLine (width m) (line_at Cost) (λ at l. (Cost, at, l, refl)))
       (All-made IsLine (height m) (line_at RightSide) (λ at l. (RightSide, at, l, refl)))
 
+  -- the name of a column or row of a kept model has the place of that column or row
   placed : (moved : Moved) (at : ℕ) → at < count_of moved m → place_by moved m (name_by moved m at) ≡ Some at
   placed Cost at l = column_at m h at l
   placed RightSide at l = row_at m h at l
@@ -287,6 +296,7 @@ module _ (m : Model) (h : IsModel m) (n : IsNarrowModel m) (f : Form) (formed : 
   module _ (v : ℚ) (optimal : IsOptimal m v) (moved : Moved) (value name low high slope behind : List ℕ)
       (says : number_of value ≡ Is v) (in_name : HasNo 32 name) (in_low : HasNo 32 low) (in_high : HasNo 32 high)
       (in_slope : HasNo 10 slope) where
+    -- where the line of a number's range, and more, is a line of three texts, these are the range of this number
     range_says : (way : Moved) (at : ℕ) (more : List ℕ) → at < count_of way m → (o : Result (Range ℚ) (StartStop ℚ)) →
         range_at way at ≡ o → bare o ++ 10 ∷ more ≡ line_with low high slope behind →
         SaysRange way (name_by way m at) m value low high slope
@@ -313,6 +323,7 @@ module _ (m : Model) (h : IsModel m) (n : IsNarrowModel m) (f : Form) (formed : 
     abbrev shown_text : List ℕ
     shown_text = number_words moved name ++ line_with low high slope behind
 
+    -- where the text that is shown begins with a number's line, its texts are the range of the number
     line_says : Begins IsLine shown_text → SaysRange moved name m value low high slope
     line_says b = by b.line b.more b.holds b.is
       where
@@ -330,6 +341,8 @@ module _ (m : Model) (h : IsModel m) (n : IsNarrowModel m) (f : Form) (formed : 
             (subst (λ (of : Name). SaysRange way of m value low high slope) w.1
             (range_says way at more l (range_at way at) refl w.2))
 
+    -- where the lines of all numbers are some lines and then the text that is shown, its texts are the range of the
+    -- number
     lines_say : (before : List (List ℕ)) →
         number_lines Cost m f basis (width m) ++ number_lines RightSide m f basis (height m)
         ≡ ended_lines before ++ shown_text →
@@ -357,6 +370,7 @@ module _ (m : Model) (h : IsModel m) (n : IsNarrowModel m) (moved : Moved) (valu
       no_text (ended_lines before) (number_words moved name ++ line_with low high slope behind)
       (words_some moved name (line_with low high slope behind)) (e ∙ regrouped)
 
+  -- where the ranges from a basis are the lines that are listed, the texts in them are the range of the number
   from_says : (basis : List Status) (v : ℚ) → Keeps m basis → IsOptimal m v → number_of value ≡ Is v →
       (o : Result Form (FormFault ℚ)) → form_of (Some number_limit) m ≡ o → ranges_from m basis o ≡ listed →
       SaysRange moved name m value low high slope
@@ -365,7 +379,8 @@ module _ (m : Model) (h : IsModel m) (n : IsNarrowModel m) (moved : Moved) (valu
       before (e ∙ regrouped)
   from_says basis v keeps optimal says (Err why) is e = absurd (not_listed e)
 
-  -- by the answer, what stands behind it, and the basis that is left
+  -- where the answer's line of a solve's end and the texts of its ranges are OPTIMAL with a value and then these lines,
+  -- the texts in them say the range of the number
   end_says : (solved : SolveEnd) → IsSolved m opening_budget None solved → (end : ExactSolveEnd) → solved.end ≡ end →
       MayAnswer m opening_budget end →
       reply_text (answer_of opening_budget end) ++ 10 ∷ ranges_text m end ≡ codes "OPTIMAL " ++ value ++ 10 ∷ listed →
@@ -402,6 +417,7 @@ module _ (style : Style) (lines : List (Line (List ℕ))) (m : Model) (what : Te
       let same : what ≡ Ok m = same_said what (Ok m) (sym is ∙ spelled_said usual_limits style lines m spells) in
       subst (λ (w : TextSaid). RangesOut w written) same out
 
+  -- what `range all` writes of a text's model begins with the line of an answer shown of the model
   answered : IsAnswered m written
   answered =
       record {
@@ -411,23 +427,29 @@ module _ (style : Style) (lines : List (Line (List ℕ))) (m : Model) (what : Te
         shown = answer_shown m opening_budget whole.0.end whole.1.may_answer;
       }
 
+  -- what `range all` writes of a text's model begins with the line of an answer that is true of the model
   pub ranges_answer : (a : ExactReply) × (behind : List ℕ) × (written ≡ reply_text a ++ 10 ∷ behind)
       × IsTrueOf m a
   ranges_answer = (answered.answer, answered.behind, answered.line, answer_holds m answered.answer answered.shown)
 
+  -- where `range all` writes `OPTIMAL` and a text, the text reads as the model's optimal value
   pub ranges_optimal : (text behind : List ℕ) → HasNoFeed text → written ≡ codes "OPTIMAL " ++ text ++ 10 ∷ behind →
       (v : ℚ) × (number_of text ≡ Is v) × IsOptimal m v
   ranges_optimal text behind no_feed e =
       optimal_line m answered.answer text answered.behind behind answered.shown no_feed (sym answered.line ∙ e)
 
+  -- where `range all` writes `INFEASIBLE`, the model is infeasible
   pub ranges_infeasible : (behind : List ℕ) → written ≡ codes "INFEASIBLE" ++ 10 ∷ behind → IsInfeasible m
   ranges_infeasible behind e =
       infeasible_line m answered.answer answered.behind behind answered.shown (sym answered.line ∙ e)
 
+  -- where `range all` writes `UNBOUNDED`, the model is unbounded
   pub ranges_unbounded : (behind : List ℕ) → written ≡ codes "UNBOUNDED" ++ 10 ∷ behind → IsUnbounded m
   ranges_unbounded behind e =
       unbounded_line m answered.answer answered.behind behind answered.shown (sym answered.line ∙ e)
 
+  -- where `range all` writes `OPTIMAL` with a value, and behind some lines that of a number with three texts, these are
+  -- the range of the number by a basis that keeps the model
   pub ranges_range : (moved : Moved) (value name low high slope behind : List ℕ) (before : List (List ℕ)) →
       HasNo 10 value → HasNo 32 name → HasNo 32 low → HasNo 32 high → HasNo 10 slope →
       written ≡ codes "OPTIMAL " ++ value

@@ -236,6 +236,8 @@ behind_iis : (x y : List ℕ) →
 behind_iis x y e = cc
 
 module _ (m : Model) (h : IsModel m) (count behind : List ℕ) (no_feed : HasNo 10 count) where
+  -- where the lines of sides that may be found are those of a count, they say so many sides of an irreducible set of
+  -- the model
   sides_said : (sides : List Side) (cert : Certificate (List ℚ)) (points : List (List ℚ)) →
       MayFind m opening_budget (Found sides cert points) →
       ended_lines (found_lines m sides cert points) ≡ counted count behind → SaysSides m count behind
@@ -258,7 +260,7 @@ module _ (m : Model) (h : IsModel m) (count behind : List ℕ) (no_feed : HasNo 
             (cut.1 ∙ is);
       }
 
-  -- the line of another end begins otherwise
+  -- the line of an end that is not infeasible is not the text of counted sides
   no_iis : (end : ExactSolveEnd) → IsElse end → end_words end ++ 10 ∷ [] ≡ counted count behind → ⊥
   unfolding reply_text
   no_iis (outcome.Ended (known.Optimal v) cert basis pivots) other e = apart 79 73 refl (ap first e)
@@ -267,6 +269,8 @@ module _ (m : Model) (h : IsModel m) (count behind : List ℕ) (no_feed : HasNo 
   no_iis (outcome.Past p) other e = apart 80 73 refl (ap first e)
   no_iis outcome.Spent other e = apart 83 73 refl (ap first e)
 
+  -- where the lines of what may be found are those of a count, they say so many sides of an irreducible set of the
+  -- model
   found_says : (found : ExactIis) → MayFind m opening_budget found →
       ended_lines (iis_lines m found) ≡ counted count behind → SaysSides m count behind
   unfolding ended_lines
@@ -283,26 +287,33 @@ module _ (style : Style) (lines : List (Line (List ℕ))) (m : Model) (what : Te
       let same : what ≡ Ok m = same_said what (Ok m) (sym is ∙ spelled_said usual_limits style lines m spells) in
       subst (λ (w : TextSaid). IisOut w written) same out
 
+  -- what `iis` writes of a text's model begins with the line of an answer shown of the model
   answered : IsAnswered m written
   answered = out_answered m written whole
 
+  -- what `iis` writes of a text's model begins with the line of an answer that is true of the model
   pub iis_answer : (a : ExactReply) × (behind : List ℕ) × (written ≡ reply_text a ++ 10 ∷ behind)
       × IsTrueOf m a
   iis_answer = (answered.answer, answered.behind, answered.line, answer_holds m answered.answer answered.shown)
 
+  -- where `iis` writes `OPTIMAL` and a text, the text reads as the model's optimal value
   pub iis_optimal : (text behind : List ℕ) → HasNoFeed text → written ≡ codes "OPTIMAL " ++ text ++ 10 ∷ behind →
       (v : ℚ) × (number_of text ≡ Is v) × IsOptimal m v
   iis_optimal text behind no_feed e =
       optimal_line m answered.answer text answered.behind behind answered.shown no_feed (sym answered.line ∙ e)
 
+  -- where `iis` writes `INFEASIBLE`, the model is infeasible
   pub iis_infeasible : (behind : List ℕ) → written ≡ codes "INFEASIBLE" ++ 10 ∷ behind → IsInfeasible m
   iis_infeasible behind e =
       infeasible_line m answered.answer answered.behind behind answered.shown (sym answered.line ∙ e)
 
+  -- where `iis` writes `UNBOUNDED`, the model is unbounded
   pub iis_unbounded : (behind : List ℕ) → written ≡ codes "UNBOUNDED" ++ 10 ∷ behind → IsUnbounded m
   iis_unbounded behind e =
       unbounded_line m answered.answer answered.behind behind answered.shown (sym answered.line ∙ e)
 
+  -- where `iis` writes `INFEASIBLE`, and then IIS and a count, the lines behind say an irreducible set of so many sides
+  -- of the model
   pub iis_sides : (count behind : List ℕ) → HasNoFeed count →
       written ≡ codes "INFEASIBLE" ++ 10 ∷ (codes "IIS " ++ count ++ 10 ∷ behind) → SaysSides m count behind
   iis_sides count behind no_feed e =

@@ -1,7 +1,8 @@
 -- What is written of a reply is its line and the lines behind it, as many as it says.
 --
 -- `announced_first`: a line that announces lines behind it begins with T, C or W.
--- `reply_lines_told`: what is written of a reply is its line, with its session, and the lines that stand behind it.
+-- `reply_lines_told`: what is written of a reply whose texts are of lines is its line, with its session's number before
+--   it where lines name sessions, and the lines that stand behind it.
 -- `step_listed`: in a good state, the texts and certificates that a step replies are of whole lines.
 use Rattle.std.proofs.Common.{◌≡◌, ◌≢◌, ℕ, suc, Bool, true, false, cond, ◌||◌, nat_eq, List, [], ◌∷◌, ◌++◌, length, map}
 use Rattle.std.proofs.Common.{get_or, Option, Some, None, Ok, Err, refl, sym, ap, ◌∙◌, subst, ◌⊎◌, inl, inr, append_assoc}
@@ -153,6 +154,7 @@ verdict_counts (verdict.No n) = refl
 verdict_counts (verdict.Past p) = refl
 
 module _ (asked : Asking) where
+  -- a reply with a text of lines is framed: its line says how many lines stand behind it
   text_framed : (text : List ℕ) → HasNoFeed (reply_text (reply.Written text)) → AreOfLines text →
       IsFramed (told_by asked (reply.Written text))
   unfolding reply_text
@@ -166,17 +168,19 @@ module _ (asked : Asking) where
         counted = inl (inl (ap (λ (n : ℕ). codes "TEXT " ++ decimal n) count));
       }
 
+  -- a reply with a certificate's lines is framed: its line says how many stand behind it
   certificate_framed : (lines : List (List ℕ)) → HasNoFeed (reply_text (reply.Certified lines)) → All HasNoFeed lines →
       IsFramed (told_by asked (reply.Certified lines))
   unfolding reply_text
   certificate_framed lines one h = record { one = one; each = h; counted = inl (inr (inl refl)) }
 
+  -- a reply with the lines of a wide solve is framed: its line says how many stand behind it
   wide_framed : (lines : List (List ℕ)) → HasNoFeed (reply_text (reply.Wide lines)) → All HasNoFeed lines →
       IsFramed (told_by asked (reply.Wide lines))
   unfolding reply_text
   wide_framed lines one h = record { one = one; each = h; counted = inl (inr (inr refl)) }
 
-  -- a line that begins with another letter
+  -- a line without a line feed in it, whose first letter announces no lines, is framed with no line behind it
   alone_framed : (line : List ℕ) → HasNoFeed line → counts (first line) ≡ false →
       IsFramed (record { asked = asked; line = line; behind = [] })
   alone_framed line one other = record {
@@ -188,6 +192,7 @@ module _ (asked : Asking) where
       not_both : counts (first line) ≡ true → ⊥
       not_both e = let z : false ≡ true = sym other ∙ e in cc
 
+  -- a reply whose line has no line feed in it, and whose texts are of lines, is framed
   by_lines : (replied : ExactReply) → HasNoFeed (reply_text replied) → IsListed replied → IsFramed (told_by asked replied)
   unfolding reply_text
   by_lines (reply.Written text) one h = text_framed text one h
@@ -204,6 +209,8 @@ module _ (asked : Asking) where
   by_lines reply.Memory one h = alone_framed _ one refl
   by_lines (reply.Refused why) one h = alone_framed _ one refl
 
+  -- where a reply has no name with a line feed, and its texts are of lines, what is told of it is framed: one line, and
+  -- as many behind it as the line says
   pub reply_framed : (replied : ExactReply) → IsPlainReply replied → IsListed replied → IsFramed (told_by asked replied)
   reply_framed replied plain h = by_lines replied (reply_no_feed replied plain) h
 
@@ -285,7 +292,7 @@ wide_listed m budget (Answered a) kept h =
 wide_listed m budget Open kept h =
     All-cons HasNoFeed (codes "OPEN") [] (tested_no_feed (codes "OPEN") refl) (All-nil HasNoFeed)
 
--- the reply to HOW is of lines
+-- the reply to HOW is of lines, as it holds no text, no certificate and no wide reply
 how_listed : (last : Option ExactLastAnswer) → IsListed (how_reply last)
 how_listed None = tt
 how_listed (Some last) = tt
@@ -320,24 +327,29 @@ module _ (old new : State) (replied : ExactReply) where
   as_stated : (stated : ExactReply) → replied ≡ stated → IsListed stated → IsListed replied
   as_stated stated e h = subst IsListed (sym e) h
 
+  -- the reply to a solve is of lines
   solve_listed : (held : Option Model) → Does old (solve_due old held) replied new → IsListed replied
   solve_listed None d = as_stated _ d.0 tt
   solve_listed (Some m) d = as_stated _ d.answer (answer_listed old.budget d.end)
 
+  -- where the model of a session is usual, the reply to a wide solve is of lines
   wide_due_listed : (held : Option Model) → IfSome held IsUsualModel → Does old (wide_due old held) replied new →
       IsListed replied
   wide_due_listed None kept d = as_stated _ d.0 tt
   wide_due_listed (Some m) kept d = as_stated _ d.answer (wide_listed m old.budget d.end kept.0 d.is_end)
 
+  -- the reply to an edit, made or refused, is of lines
   edit_listed : (r : OrFault Model) → Does old (edit_due old r) replied new → IsListed replied
   edit_listed (Ok m) d = as_stated _ d.0 tt
   edit_listed (Err why) d = as_stated _ d.0 (refusal_listed why)
 
+  -- the reply to an edit, with a model or without, is of lines
   change_listed : (held : Option Model) (e : ExactEdit) → Does old (change_due old held e) replied new →
       IsListed replied
   change_listed None e d = as_stated _ d.0 tt
   change_listed (Some m) e d = edit_listed (edited m e) d
 
+  -- in a good state, the reply that is due for a request is of lines
   due_listed : (asked : ExactAsk) → IsGood old → Does old (due old asked) replied new → IsListed replied
   due_listed (ask.Plain (command.Write form)) good d = as_stated _ d.0 (write_listed old.model form good.kept)
   due_listed (ask.Plain command.Solve) good d = solve_listed old.model d

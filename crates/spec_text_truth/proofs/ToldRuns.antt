@@ -101,20 +101,25 @@ module _ (places : ℕ) (before behind : List Exchange) (x : Exchange) (alone : 
   here : IsReached places before x
   here = reached places before behind x alone
 
+  -- where the requests of a run may be kept, the session of exchange x is in a good state before it
   good : AreKept (map asked_in (before ++ x ∷ behind)) → IsGood here.old
   good may =
       run_good places opening here.old (of_session x.session before)
       (session_kept x.session before (front_kept before (x ∷ behind) may)) here.run (record { kept = tt; fits = tt })
 
+  -- where the requests of a run may be kept, the reply of exchange x is of lines
   then_listed : AreKept (map asked_in (before ++ x ∷ behind)) → IsListed x.reply
   then_listed may = step_listed places here.old here.new x.ask x.reads x.reply here.step (good may)
 
+  -- where the requests of a run may be kept, and that of an exchange has no name with a line feed, neither has its
+  -- reply
   pub then_plain : AreKept (map asked_in (before ++ x ∷ behind)) → IsPlainAsk x.ask → IsPlainReply x.reply
   then_plain may plain = step_plain places here.old here.new x.ask x.reads x.reply here.step (good may).kept plain
 
   abbrev IsThen : Model → Type 0
   IsThen m = model_told x.session (map told_of before) ≡ Some m
 
+  -- a model that is told of the session before exchange x is the one that it has then
   is_then : (m : Model) → model_then x.session before ≡ Some m → IsThen m
   is_then m e =
       sym (told_then places x.session before here.old here.run)
@@ -122,6 +127,7 @@ module _ (places : ℕ) (before behind : List Exchange) (x : Exchange) (alone : 
 
   -- by what is shown then
   module _ (text : List ℕ) (v : ℚ) (same : number_text v ≡ text) (s : IsShownThen before x (known.Optimal v)) where
+    -- a value that is shown in exchange x is the optimal value of the model that the session has then
     value_true : (m : Model) × IsThen m × ((v : ℚ) × IsNumber text v × IsOptimal m v)
     value_true = (
       s.model,
@@ -129,6 +135,7 @@ module _ (places : ℕ) (before behind : List Exchange) (x : Exchange) (alone : 
       (v, ap number_of (sym same) ∙ read_back v (value_fits s.model v s.shown), shown_holds s.model (known.Optimal v) s.shown),
     )
 
+  -- the line of the reply of exchange x is true of the model that its session has then
   answer_line : IsTrueLine IsThen IsNumber (reply_text x.reply)
   answer_line = record {
     optimal = λ text e.
@@ -142,6 +149,7 @@ module _ (places : ℕ) (before behind : List Exchange) (x : Exchange) (alone : 
         (s.model, is_then s.model s.is_held, shown_holds s.model known.Unbounded s.shown);
   }
 
+  -- where the line of exchange x is a yes, what stands behind the word is true of the model that the session has then
   yes_line : BehindYes (IsTrueLine IsThen IsNumber) (reply_text x.reply)
   yes_line rest said_yes = record {
     optimal = λ text e.
@@ -157,6 +165,7 @@ module _ (places : ℕ) (before behind : List Exchange) (x : Exchange) (alone : 
         (s.model, is_then s.model s.is_held, shown_holds s.model known.Unbounded s.shown);
   }
 
+  -- where exchange x is a wide solve, its first line is true of the model that the session has then
   wide_line : BehindWide (IsTrueLine IsThen IsWideNumber) (told_of x)
   unfolding ended_lines
   wide_line count said_wide line rest plain e =
@@ -174,6 +183,7 @@ module _ (places : ℕ) (before behind : List Exchange) (x : Exchange) (alone : 
           line_is_true IsThen w.0 line (is_then w.0 w.1)
           (subst (λ (l : List ℕ). IsOpen l ⊎ IsKnownLine w.0 l) same w.2)
 
+  -- what is told of exchange x is a true reply after what is told before it
   then_true : IsTrueReply (map told_of before) (told_of x)
   then_true = (answer_line, yes_line, wide_line)
 

@@ -125,11 +125,14 @@ wide_known_no_feed known.Unbounded = tested_no_feed (codes "UNBOUNDED") refl
 -- ---- the first line, and the first two
 
 module _ (IsTrue : List ℕ → Type 0) where
+  -- where an output begins with a line that is true, its first line is true
   pub first_true : (output line behind : List ℕ) → output ≡ line ++ 10 ∷ behind → HasNoFeed line → IsTrue line →
       OfFirst IsTrue output
   first_true output line behind is plain true_line other rest no_feed e =
       subst IsTrue (same_line line other behind rest plain no_feed (sym is ∙ e)) true_line
 
+  -- where an output begins with a line that is true, and the first line behind that is true, its first two lines are
+  -- true
   pub two_true : (output line behind : List ℕ) → output ≡ line ++ 10 ∷ behind → HasNoFeed line → IsTrue line →
       OfFirst IsTrue behind → OfFirstTwo IsTrue output
   two_true output line behind is plain true_line true_rest other rest no_feed e = (
@@ -137,7 +140,7 @@ module _ (IsTrue : List ℕ → Type 0) where
     subst (OfFirst IsTrue) (same_rest line other behind rest plain no_feed (sym is ∙ e)) true_rest,
   )
 
-  -- where nothing stands
+  -- an empty output has no first line, so whatever is asked of its first line holds
   pub nothing_true : OfFirst IsTrue []
   nothing_true [] behind no_feed e = cc
   nothing_true (b ∷ line) behind no_feed e = cc
@@ -145,7 +148,7 @@ module _ (IsTrue : List ℕ → Type 0) where
 -- ---- what it says of a model
 
 module _ (IsOf : Model → Type 0) where
-  -- of none, where it begins with another letter
+  -- a line that does not look like a known answer is true of the model, whatever its texts are read as
   pub other_true : (IsText : List ℕ → ℚ → Type 0) (line : List ℕ) → looks_known line ≡ false →
       IsTrueLine IsOf IsText line
   other_true IsText line h = record {
@@ -157,7 +160,7 @@ module _ (IsOf : Model → Type 0) where
       not_both : looks_known line ≡ true → ⊥
       not_both e = let z : false ≡ true = sym h ∙ e in cc
 
-  -- an output that begins with the letter E
+  -- an output that begins with the letter E has a first line that is true of the model, as it is no known answer
   pub refused_true : (IsText : List ℕ → ℚ → Type 0) (output : List ℕ) → first output ≡ 69 →
       OfFirst (IsTrueLine IsOf IsText) output
   refused_true IsText output h [] behind no_feed e = other_true IsText [] refl
@@ -166,6 +169,7 @@ module _ (IsOf : Model → Type 0) where
       other_true IsText (b ∷ line) (ap (λ d. looks_known (d ∷ line)) letter)
 
   module _ (m : Model) (is_of : IsOf m) where
+    -- where a known answer is shown of a model, the line of its text is true of the model
     pub known_true : (what : Known ℚ) (line : List ℕ) → IsShown m what → known_text what ≡ line →
         IsTrueLine IsOf IsNumber line
     known_true what line s same = record {
@@ -177,6 +181,7 @@ module _ (IsOf : Model → Type 0) where
       unbounded = λ e. (m, is_of, shown_holds m known.Unbounded (subst (IsShown m) (unbounded what (same ∙ e)) s));
     }
 
+    -- where an answer is shown by its reply, the line of the reply is true of the model
     pub answer_true : (a : ExactReply) → IsShownBy m a → IsTrueLine IsOf IsNumber (reply_text a)
     unfolding reply_text
     answer_true (reply.Known what) s = known_true what (known_text what) s refl
@@ -184,7 +189,7 @@ module _ (IsOf : Model → Type 0) where
     answer_true (reply.Spent budget) s = other_true IsNumber (codes "SPENT " ++ decimal budget) refl
     answer_true replied s = absurd s
 
-    -- with numbers of any width
+    -- where a known answer holds of a model, the line of its text in any width is true of the model
     pub wide_known_true : (what : Known ℚ) (line : List ℕ) → Holds m what → wide_known_text what ≡ line →
         IsTrueLine IsOf IsWideNumber line
     wide_known_true (known.Optimal v) line h same = record {

@@ -9,6 +9,7 @@ use Rattle.spec_text_truth.specs.TrueOutput.{HasNoFeed, IsNumber, IsTrueLine, Of
 use Rattle.spec_text_truth.proofs.GeneratedModels.{size_other, optimal_follows, never_infeasible, never_unbounded}
 use Rattle.spec_text_truth.proofs.TrueLines.{tail_no_feed, other_true}
 
+-- what `gen` writes for a seed and sizes is true, whatever input is left
 pub seed_true : (seed rows columns : ℕ) (after : Option (List ℕ)) (read written : List ℕ) →
     GenOut seed rows columns written → IsTrueOf (Generate seed rows columns) after read written
 seed_true seed rows columns after read written out size rest size_plain e =

@@ -139,7 +139,7 @@ wide_yes_reply is h = by (valued_or_same is)
 
 -- ---- ranges, and sides that contradict each other
 
--- what holds of all elements of two lists holds of all of each
+-- what holds of all bytes of two lists, one behind the other, holds of all bytes of each
 both_parts : (P : ℕ → Type 0) (a b : List ℕ) → All P (a ++ b) → All P a × All P b
 both_parts P [] b h = (All-nil P, h)
 both_parts P (x ∷ a) b h =
@@ -184,6 +184,7 @@ module _ (IsOf : Model → Type 0) (written : List ℕ) where
       (v : ℚ) × IsText text v × IsOptimal m v)
       (infeasible : (behind : List ℕ) → written ≡ codes "INFEASIBLE" ++ 10 ∷ behind → IsInfeasible m)
       (unbounded : (behind : List ℕ) → written ≡ codes "UNBOUNDED" ++ 10 ∷ behind → IsUnbounded m) where
+    -- where each line that the written bytes may begin with is true of the model, their first line is true
     begins_true : OfFirst (IsTrueLine IsOf IsText) written
     begins_true line behind no_feed e = record {
       optimal = λ text is. (
@@ -196,12 +197,14 @@ module _ (IsOf : Model → Type 0) (written : List ℕ) where
       unbounded = λ is. (m, is_of, unbounded behind (e ∙ ap (λ (l : List ℕ). l ++ 10 ∷ behind) is));
     }
 
+  -- where what was written is the line of a fault of the text, its first line is true
   misspelled_true : (IsText : List ℕ → ℚ → Type 0) (fault : MpsFault) →
       written ≡ check_line (reply.Refused (refusal.Misspelled fault)) → OfFirst (IsTrueLine IsOf IsText) written
   misspelled_true IsText fault e = refused_true IsOf IsText written (ap first e ∙ misspelled_first fault)
 
 module _ (style : Style) (lines : Lines) (IsOf : Model → Type 0) (is_of : (m : Model) → Spells style lines m → IsOf m)
     (written : List ℕ) where
+  -- what `solve` writes has a first line that is true of the model that the lines spell
   solve_true : (what : TextSaid) → text_said style lines ≡ Some what → SolveOut what written →
       OfFirst (IsTrueLine IsOf IsNumber) written
   solve_true (Ok m) is out =
@@ -211,6 +214,7 @@ module _ (style : Style) (lines : Lines) (IsOf : Model → Type 0) (is_of : (m :
       (solved.unbounded_begins style lines m (Ok m) written is out spells)
   solve_true (Err fault) is out = misspelled_true IsOf written IsNumber fault out
 
+  -- what `basis` writes has a first line that is true of the model that the lines spell
   basis_true : (what : BasisSaid) → basis_said usual_limits style lines ≡ Some what → BasisOut what written →
       OfFirst (IsTrueLine IsOf IsNumber) written
   basis_true what is out line behind no_feed e = record {
@@ -228,6 +232,7 @@ module _ (style : Style) (lines : Lines) (IsOf : Model → Type 0) (is_of : (m :
 
   -- ---- certificates
 
+  -- where `check` says yes, the text of the yes is true of the model that the lines spell
   yes_true : (what : Known ℚ) → said style lines ≡ Some (yes_to what) → (rest : List ℕ) → known_text what ≡ rest →
       IsTrueLine IsOf IsNumber rest
   yes_true what is rest same =
@@ -235,6 +240,7 @@ module _ (style : Style) (lines : Lines) (IsOf : Model → Type 0) (is_of : (m :
       known_true IsOf c.model (is_of c.model (certified_spells narrow usual_limits style lines (λ m. IsShown m what) c))
       what rest c.is_so same
 
+  -- where `check` writes a yes, what stands behind the word is true of the model that the lines spell
   check_true : (what : ExactReply) → said style lines ≡ Some what → written ≡ check_line what →
       OfFirst (BehindYes (IsTrueLine IsOf IsNumber)) written
   unfolding check_line
@@ -279,6 +285,7 @@ module _ (style : Style) (lines : Lines) (IsOf : Model → Type 0) (is_of : (m :
   way_is_line (Plain why.Spent) =
       record { line = codes "PLAIN SPENT"; plain = tested_no_feed (codes "PLAIN SPENT") refl; other = refl; is_line = refl }
 
+  -- what `presolve` writes has first two lines that are true of the model that the lines spell
   presolve_true : (what : TextSaid) → text_said style lines ≡ Some what → PresolveOut what written →
       OfFirstTwo (IsTrueLine IsOf IsNumber) written
   unfolding check_line
@@ -299,6 +306,7 @@ module _ (style : Style) (lines : Lines) (IsOf : Model → Type 0) (is_of : (m :
 
   -- ---- sides and ranges
 
+  -- what `iis` writes has a first line, and sides, that are true of the model that the lines spell
   iis_true : (what : TextSaid) → text_said style lines ≡ Some what → IisOut what written →
       OfFirst (IsTrueLine IsOf IsNumber) written × SaysTrueSides IsOf written
   iis_true (Ok m) is out =
@@ -314,6 +322,7 @@ module _ (style : Style) (lines : Lines) (IsOf : Model → Type 0) (is_of : (m :
     λ count behind no_feed e. absurd (apart 69 73 refl (sym (ap first out ∙ misspelled_first fault) ∙ ap first e)),
   )
 
+  -- what `range` writes has a first line, and a range, that are true of the model that the lines spell
   ranged_true : (moved : Moved) (name : Name) (what : TextSaid) → text_said style lines ≡ Some what →
       RangeOut moved name what written →
       OfFirst (IsTrueLine IsOf IsNumber) written × SaysTrueRange moved name [] IsOf written
@@ -337,6 +346,7 @@ module _ (style : Style) (lines : Lines) (IsOf : Model → Type 0) (is_of : (m :
         absurd (apart 69 79 refl (sym (ap first out ∙ misspelled_first fault) ∙ ap first e)),
   )
 
+  -- what `range all` writes has a first line, and ranges, that are true of the model that the lines spell
   ranges_true : (what : TextSaid) → text_said style lines ≡ Some what → RangesOut what written →
       OfFirst (IsTrueLine IsOf IsNumber) written × SaysTrueRanges IsOf written
   ranges_true (Ok m) is out =
@@ -362,6 +372,8 @@ module _ (style : Style) (lines : Lines) (IsOf : Model → Type 0) (is_of : (m :
 -- large models, and numbers of any width
 module _ (style : Style) (lines : Lines) (IsOf : Model → Type 0)
     (is_of : (m : Model) → SpellsWithin large_limits style lines m → IsOf m) (written : List ℕ) where
+  -- what `solve --wide` writes after something was said of the lines has a first line that is true of the model, with
+  -- numbers of any width
   solve_wide_true : (what : TextSaid) → text_said_within large_limits style lines ≡ Some what → SolveWideOut what written →
       OfFirst (IsTrueLine IsOf IsWideNumber) written
   solve_wide_true (Ok m) is out =
@@ -372,6 +384,8 @@ module _ (style : Style) (lines : Lines) (IsOf : Model → Type 0)
       (wide.unbounded_begins style lines m (Ok m) written is out spells)
   solve_wide_true (Err fault) is out = misspelled_true IsOf written IsWideNumber fault out
 
+  -- what `basis --wide` writes has a first line that is true of the model that the lines spell, with numbers of any
+  -- width
   basis_wide_true : (what : BasisSaid) → basis_said large_limits style lines ≡ Some what → BasisWideOut what written →
       OfFirst (IsTrueLine IsOf IsWideNumber) written
   basis_wide_true what is out line behind no_feed e = record {
@@ -389,6 +403,7 @@ module _ (style : Style) (lines : Lines) (IsOf : Model → Type 0)
         (o.0, is_of o.0 o.1, o.2);
   }
 
+  -- where `check --wide` says yes, the wide text of the yes is true of the model that the lines spell
   wide_yes_true : (what : Known ℚ) → wide_said style lines ≡ Some (yes_to what) → (rest : List ℕ) →
       wide_known_text what ≡ rest → IsTrueLine IsOf IsWideNumber rest
   wide_yes_true what is rest same =
@@ -396,6 +411,7 @@ module _ (style : Style) (lines : Lines) (IsOf : Model → Type 0)
       wide_known_true IsOf c.model (is_of c.model (certified_spells wide_numbers large_limits style lines
       (λ m. Holds m what) c)) what rest c.is_so same
 
+  -- where `check --wide` writes a yes, what stands behind the word is true of the model that the lines spell
   wide_check_true : (what : ExactReply) → wide_said style lines ≡ Some what → written ≡ wide_check_line what →
       OfFirst (BehindYes (IsTrueLine IsOf IsWideNumber)) written
   unfolding wide_check_line

@@ -56,7 +56,7 @@ valued_or_same (reply.Refused why) = inr refl
 behind_optimal : (a b : List ℕ) → codes "YES OPTIMAL " ++ a ≡ codes "YES OPTIMAL " ++ b → a ≡ b
 behind_optimal a b e = cc
 
--- the text of a yes with a value begins with the letter O behind the word YES
+-- a text with another letter than O behind the word YES is not the wide text of a yes with a value
 not_valued : (v : ℚ) (is : ExactReply) (text : List ℕ) → is ≡ yes_to (known.Optimal v) →
     (letter : ℕ) → (79 ≡ letter → ⊥) → get_or text 4 0 ≡ letter → wide_reply_text is ≡ text → ⊥
 not_valued v is text e letter other begins says =

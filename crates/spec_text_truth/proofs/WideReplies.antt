@@ -75,19 +75,24 @@ below_no_feed letter names values (suc n) h =
     (part_no_feed letter (names n) (part values n) (h n (omega arith)))
 
 module _ (m : Model) (kept : IsModel m) where
+  -- the name of a column of a kept model has no line feed
   column_no_feed : (j : ℕ) → j < width m → HasNoFeed (column m j).name
   column_no_feed j l =
       printed_no_feed (column m j).name (name_short (column m j).name (column_named m kept j l)).plain
 
+  -- the name of a row of a kept model has no line feed
   row_no_feed : (i : ℕ) → i < height m → HasNoFeed (row m i).name
   row_no_feed i l = printed_no_feed (row m i).name (name_short (row m i).name (row_named m kept i l)).plain
 
+  -- the wide lines of values by columns have no line feed in them
   columns_no_feed : (letter : Letter) (xs : List ℚ) → All HasNoFeed (column_lines_by wide_writing m letter xs)
   columns_no_feed letter xs = below_no_feed letter (λ j. (column m j).name) xs (width m) column_no_feed
 
+  -- the wide lines of values by rows have no line feed in them
   rows_no_feed : (letter : Letter) (xs : List ℚ) → All HasNoFeed (row_lines_by wide_writing m letter xs)
   rows_no_feed letter xs = below_no_feed letter (λ i. (row m i).name) xs (height m) row_no_feed
 
+  -- the text of a certificate's kind has no line feed
   kind_no_feed : (cert : Certificate (List ℚ)) → IsFor m cert → HasNoFeed (kind_text m cert)
   kind_no_feed (Optimal x y) f = tested_no_feed (codes "OPTIMAL") refl
   kind_no_feed (Infeasible y) f = tested_no_feed (codes "INFEASIBLE") refl
@@ -96,6 +101,7 @@ module _ (m : Model) (kept : IsModel m) where
       both_no_feed (codes "CLASH") (32 ∷ (column m j).name) (tested_no_feed (codes "CLASH") refl)
       (behind_blank (column m j).name (column_no_feed j f))
 
+  -- the wide lines of a certificate's parts have no line feed in them
   parts_no_feed : (cert : Certificate (List ℚ)) → All HasNoFeed (all_part_lines_by wide_writing m cert)
   parts_no_feed (Optimal x y) =
       All-append HasNoFeed (column_lines_by wide_writing m X x) (row_lines_by wide_writing m Y y)
@@ -106,6 +112,7 @@ module _ (m : Model) (kept : IsModel m) where
       (columns_no_feed X x) (columns_no_feed R r)
   parts_no_feed (Clash j) = All-nil HasNoFeed
 
+  -- the lines of a certificate for a kept model, in numbers of any width, have no line feed in them
   pub certificate_no_feed : (cert : Certificate (List ℚ)) → IsFor m cert →
       All HasNoFeed (wide_certificate_lines m cert)
   unfolding certificate_lines_by
@@ -117,7 +124,8 @@ module _ (m : Model) (kept : IsModel m) where
 
 -- ---- what the first of them says
 
--- where a known answer is true and its text is OPTIMAL and a text, this is that of the optimal value
+-- where a known answer is true of a model, and its wide text is OPTIMAL and a text, the text is that of the model's
+-- optimal value
 optimal_known : (m : Model) (what : Known ℚ) (text : List ℕ) → Holds m what →
     wide_known_text what ≡ codes "OPTIMAL " ++ text → (v : ℚ) × IsWideNumber text v × IsOptimal m v
 optimal_known m (known.Optimal v) text h e = let same : wide_text v ≡ text = cc in (v, sym same, h)

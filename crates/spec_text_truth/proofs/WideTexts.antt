@@ -36,7 +36,8 @@ abbrev pub IsRead : Model → List ℕ → Type 0
 IsRead m text =
     (v : ℚ) × (text ≡ wide_text v) × (length text ≤ most_zeros → wide_of text ≡ Is v) × IsOptimal m v
 
--- where the line of a true answer is OPTIMAL and a text, the text reads as the optimal value
+-- where an answer is true of a model, and its line reads OPTIMAL and a text, the text reads as the model's optimal
+-- value
 wide_optimal : (m : Model) (what : Known ℚ) (text x y : List ℕ) → Holds m what → HasNoFeed text →
     wide_known_text what ++ 10 ∷ x ≡ codes "OPTIMAL " ++ text ++ 10 ∷ y → IsRead m text
 wide_optimal m (known.Optimal v) text x y h k e =
@@ -62,7 +63,7 @@ wide_unbounded m known.Unbounded x y h e = h
 
 -- ---- the line of an open end
 
--- the line `OPEN` is no line of the word OPTIMAL and a text
+-- the line `OPEN` is no line that reads OPTIMAL and a text
 open_optimal : (text y : List ℕ) → ended_lines (codes "OPEN" ∷ []) ≡ codes "OPTIMAL " ++ text ++ 10 ∷ y → ⊥
 unfolding ended_lines
 open_optimal text y e = apart 69 84 refl (ap third e)
@@ -80,16 +81,22 @@ open_unbounded y e = apart 69 66 refl (ap third e)
 -- ---- either
 
 module _ (m : Model) (written : List ℕ) where
+  -- where an output is the line `OPEN`, or begins with the line of a true answer, and it reads `OPTIMAL` and a text,
+  -- the text reads as the model's optimal value
   pub either_optimal : (text behind : List ℕ) → OpenOrTrue m written → HasNoFeed text →
       written ≡ codes "OPTIMAL " ++ text ++ 10 ∷ behind → IsRead m text
   either_optimal text behind (inl unknown) no_feed e = absurd (open_optimal text behind (sym unknown ∙ e))
   either_optimal text behind (inr r) no_feed e = wide_optimal m r.0 text r.1 behind r.3 no_feed (sym r.2 ∙ e)
 
+  -- where an output is the line `OPEN`, or begins with the line of a true answer, and it reads `INFEASIBLE`, the model
+  -- is infeasible
   pub either_infeasible : (behind : List ℕ) → OpenOrTrue m written → written ≡ codes "INFEASIBLE" ++ 10 ∷ behind →
       IsInfeasible m
   either_infeasible behind (inl unknown) e = absurd (open_infeasible behind (sym unknown ∙ e))
   either_infeasible behind (inr r) e = wide_infeasible m r.0 r.1 behind r.3 (sym r.2 ∙ e)
 
+  -- where an output is the line `OPEN`, or begins with the line of a true answer, and it reads `UNBOUNDED`, the model
+  -- is unbounded
   pub either_unbounded : (behind : List ℕ) → OpenOrTrue m written → written ≡ codes "UNBOUNDED" ++ 10 ∷ behind →
       IsUnbounded m
   either_unbounded behind (inl unknown) e = absurd (open_unbounded behind (sym unknown ∙ e))

@@ -9,8 +9,9 @@ use Rattle.spec_server.specs.declared.asks.Reply.TheVariants.{Known, Past, Spent
 use Rattle.spec_server.specs.Machine.{ExactReply}
 use Rattle.spec_commands.specs.CheckOut.{said}
 
--- The reply answers a solve. To these lines of a text with those of the written bytes behind them `check` says yes, and
--- that what the answer knows is known, whatever follows. PAST and SPENT have no certificate.
+-- The reply answers a solve. Where it is a known answer, `check` says yes to the lines `text` with the lines of the
+-- bytes `written` behind them, and that the same is known, whatever follows. Of PAST and SPENT, which have no
+-- certificate, nothing is asked. No other reply is accepted.
 abbrev pub IsAccepted : Style → List (Line (List ℕ)) → ExactReply → List ℕ → Type 0
 IsAccepted style text (Known what) written =
     (more : List ℕ) → said style (text ++ ended_lines_of (written ++ more)) ≡ Some (reply.Checked (Yes what))

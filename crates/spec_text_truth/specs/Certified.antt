@@ -15,8 +15,9 @@ use Rattle.spec_program.specs.declared.command_line.TextCommand.TheVariants.{Che
 use Rattle.spec_program.specs.TextLimits.{limits_of}
 use Rattle.spec_server.specs.TextSaid.{text_said_within}
 
--- The lines up to the first one that ends the text of a model within limits; the lines of a certificate after it, whose
--- numbers are read by `read`; and what is so of the model.
+-- The lines spell a model within limits, up to the first line that ends its text; those behind it begin with a
+-- certificate whose numbers are read by `read`; and the model has the property `IsSo`. That the certificate is accepted
+-- for the model is no part of it.
 pub record IsCertifiedBy (read : Reading ℚ) (limits : SizeLimits) (style : Style) (lines : List (Line (List ℕ)))
     (IsSo : Model → Type 0) : Type 0 where
   pub front : List (Line (List ℕ))
@@ -30,10 +31,12 @@ pub record IsCertifiedBy (read : Reading ℚ) (limits : SizeLimits) (style : Sty
   pub certified : SpellsBy read behind raw
   pub is_so : IsSo model
 
--- numbers of the certificate are of 127 bits
+-- The lines spell a usual model and then a certificate, whose numbers have at most 127 bits;
+-- and the model has this property. Nothing else is said of the certificate.
 abbrev pub IsCertified : Style → List (Line (List ℕ)) → (Model → Type 0) → Type 0
 IsCertified = IsCertifiedBy narrow usual_limits
 
--- as `IsCertified`, for large models too, with numbers of any width in the certificate
+-- The lines spell a usual or large model and then a certificate, whose numbers may have any width;
+-- and the model has this property. Nothing else is said of the certificate.
 abbrev pub IsWidelyCertified : Style → List (Line (List ℕ)) → (Model → Type 0) → Type 0
 IsWidelyCertified = IsCertifiedBy wide (limits_of CheckWide)

@@ -12,24 +12,26 @@ use Rattle.spec_program.specs.declared.command_line.Moved.{Moved}
 use Rattle.spec_program.specs.declared.command_line.Moved.TheVariants.{Cost, RightSide}
 use Rattle.spec_commands.specs.RangeOut.{place_by}
 
--- the cost of the column there, or the right side of the row there
+-- the number that a model has in the place that is moved: the cost of its column of number `at`, or the right side of
+-- its row of number `at`
 abbrev pub number_at : Moved → Model → ℕ → ℚ
 number_at Cost m at = cost m at
 number_at RightSide m at = (row m at).rhs
 
--- the model with another number in its place
+-- the model with this number as the cost of its column of number `at`, or as the right side of its row of number `at`
 abbrev pub with_number : Moved → Model → ℕ → ℚ → Model
 with_number Cost m at = with_cost m at
 with_number RightSide m at = with_rhs m at
 
--- a text says where a range ends, if it does
+-- the text says this end of a range: it spells the end's number in at most 127 bits, or is `NONE` where there is no end
 abbrev pub SaysEnd : List ℕ → Option ℚ → Type 0
 SaysEnd text None = text ≡ codes "NONE"
 SaysEnd text (Some v) = number_of text ≡ Is v
 
--- The name is that of a column or row, and the texts are those of the optimal value, and of a range in which a basis that
--- shows this optimum keeps the model: exactly with these numbers in place of the one that is there. The slope says the
--- optimal value with each of them.
+-- The name is that of a column of m, whose cost is moved, or of a row, whose right side is. `value` is the text of m's
+-- optimal value. `low`, `high` and `slope` are the texts of a range: there is a basis that is optimal in m, and that
+-- stays optimal with exactly the numbers from low to high in place of m's. With each of them the optimal value is that
+-- of m and the slope times what the number has grown by.
 pub record SaysRange (moved : Moved) (name : Name) (m : Model) (value low high slope : List ℕ) : Type 0 where
   pub at : ℕ
   pub named : place_by moved m name ≡ Some at

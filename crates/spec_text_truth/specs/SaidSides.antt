@@ -7,8 +7,9 @@ use Rattle.spec_iis.specs.Irreducible.{IsIrreducible}
 use Rattle.spec_server.specs.Output.{ended_lines}
 use Rattle.spec_commands.specs.IisOut.{side_line}
 
--- So many lines as the text says are those of sides that no point meets together, though each set of all but one is met.
--- As many lines are those of no other sides of the model.
+-- The bytes `behind` begin with the lines of as many sides of m, limits of rows and bounds of columns, as the text
+-- `count` says. No point meets all of them, though each set of all but one is met by some point. No other sides of m,
+-- as many as these, have these lines.
 pub record SaysSides (m : Model) (count behind : List ℕ) : Type 0 where
   pub sides : List Side
   pub more : List ℕ

@@ -17,7 +17,8 @@ use Rattle.spec_bas.specs.Spelled.{SpellsBasis}
 use Rattle.spec_server.specs.TextSaid.{text_said_within}
 use Rattle.spec_commands.specs.BasisOut.{Handed}
 
--- the lines up to the first one that ends the text of a model within limits of size, and those behind it
+-- the lines up to the first one that ends a model's text spell this model within limits of size;
+-- those behind it are `behind`
 pub record BeginsWithText (limits : SizeLimits) (style : Style) (lines : List (Line (List ℕ))) (m : Model)
     (behind : List (Line (List ℕ))) : Type 0 where
   pub front : List (Line (List ℕ))
@@ -26,23 +27,25 @@ pub record BeginsWithText (limits : SizeLimits) (style : Style) (lines : List (L
   pub undecided : text_said_within limits style front ≡ None
   pub spelled : text.SpellsWithin limits style (front ++ last ∷ []) m
 
--- the form of a model at the limit of the server's numbers, if it has one there
+-- the form of a model at 127 bits, or why it has none
 abbrev pub form_at_limit : Model → Result Form (FormFault ℚ)
 form_at_limit m = form_of (Some number_limit) m
 
--- lines spell this basis for the form; where there is no form no file is read, and there is no basis
+-- What is said of the lines of a basis file, by the form of the model m or why it has none. With a form, there must be
+-- a basis, and the lines spell it for this form. Without one, no line is read, and there must be no basis.
 abbrev pub IsFileOf : Model → Result Form (FormFault ℚ) → List (Line (List ℕ)) → Option (List Status) → Type 0
 IsFileOf m (Ok f) lines (Some basis) = SpellsBasis m f lines basis
 IsFileOf m (Ok f) lines None = ⊥
 IsFileOf m (Err why) lines basis = basis ≡ None
 
--- the lines spell the model and, behind its text, the basis
+-- the lines spell what is handed to the command: the model and, behind its text, the basis, if the model has a form
 pub record AreHanded (limits : SizeLimits) (style : Style) (lines : List (Line (List ℕ))) (handed : Handed) : Type 0 where
   pub behind : List (Line (List ℕ))
   pub text : BeginsWithText limits style lines handed.model behind
   pub file : IsFileOf handed.model (form_at_limit handed.model) behind handed.basis
 
--- the lines spell a model with a form and, behind its text, no file: its line n is the first wrong one
+-- The lines spell a model with a form, but those behind its text spell no basis file for it: line n of these, counted
+-- from 1, is the first wrong one, with this fault. Where they end too early, it is the one that would come next.
 pub record HaveWrongFile (limits : SizeLimits) (style : Style) (lines : List (Line (List ℕ))) (n : ℕ)
     (code : BasCode) : Type 0 where
   pub model : Model

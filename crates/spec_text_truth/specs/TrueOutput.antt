@@ -43,34 +43,35 @@ use Rattle.spec_text_truth.specs.SaidRange.{number_at, with_number, SaysEnd}
 
 -- ---- what a line says of a model
 
--- a line of text, without the line feed that ends it
+-- none of these bytes is a line feed, so they may be all of a line but the feed that ends it
 abbrev pub HasNoFeed : List ℕ → Type 0
 HasNoFeed line = All (λ b. b ≢ 10) line
 
--- the text of a number, as in the texts of models, or of any width
+-- the text spells the number v as models' texts do, in at most 127 bits
 abbrev pub IsNumber : List ℕ → ℚ → Type 0
 IsNumber text v = number_of text ≡ Is v
 
--- a text is that of a number of any width
+-- the text is the one that v, of any width, is written as
 abbrev pub IsWideNumber : List ℕ → ℚ → Type 0
 IsWideNumber text v = text ≡ wide_text v
 
--- where a line is the text of an answer, there is a model of the given kind, and the answer is true of it
+-- If the line says `OPTIMAL` and a text, `INFEASIBLE` or `UNBOUNDED`, there is a model of the kind `IsOf` of which that
+-- is true. The text then says the optimal value, as `IsText` reads it. Of any other line nothing is asked.
 pub record IsTrueLine (IsOf : Model → Type 0) (IsText : List ℕ → ℚ → Type 0) (line : List ℕ) : Type 0 where
   pub optimal : (text : List ℕ) → line ≡ codes "OPTIMAL " ++ text →
       (m : Model) × IsOf m × ((v : ℚ) × IsText text v × IsOptimal m v)
   pub infeasible : line ≡ codes "INFEASIBLE" → (m : Model) × IsOf m × IsInfeasible m
   pub unbounded : line ≡ codes "UNBOUNDED" → (m : Model) × IsOf m × IsUnbounded m
 
--- IsTrue holds of what stands behind the word `YES` in a line
+-- if the line is `YES` and more, IsTrue holds of what stands behind this word
 abbrev pub BehindYes : (List ℕ → Type 0) → List ℕ → Type 0
 BehindYes IsTrue line = (rest : List ℕ) → line ≡ codes "YES " ++ rest → IsTrue rest
 
--- IsTrue holds of the first line of an output
+-- IsTrue holds of the first line of an output, without its line feed; of an output without a line feed nothing is asked
 abbrev pub OfFirst : (List ℕ → Type 0) → List ℕ → Type 0
 OfFirst IsTrue output = (line behind : List ℕ) → HasNoFeed line → output ≡ line ++ 10 ∷ behind → IsTrue line
 
--- IsTrue holds of the first line of an output, and of the second
+-- IsTrue holds of the first line of an output, and of the second, as far as it has whole lines
 abbrev pub OfFirstTwo : (List ℕ → Type 0) → List ℕ → Type 0
 OfFirstTwo IsTrue output =
     (line behind : List ℕ) → HasNoFeed line → output ≡ line ++ 10 ∷ behind → IsTrue line × OfFirst IsTrue behind
@@ -92,7 +93,8 @@ pub record IsTrueRange (moved : Moved) (name : Name) (m : Model) (value low high
   pub optimal : (t : ℚ) → IsBetween ends t →
       IsOptimal (with_number moved m at t) (optimum +ℚ (t -ℚ number_at moved m at) *ℚ growth)
 
--- What an output says of a range, behind the line of an optimum and the text `between`, is true of a model.
+-- If the output is the line of an optimum, then the text `between`, and then the line of a range, there is a model of
+-- the given kind of which optimum and range are true.
 abbrev pub SaysTrueRange : Moved → Name → List ℕ → (Model → Type 0) → List ℕ → Type 0
 SaysTrueRange moved name between IsOf output =
     (value low high slope behind : List ℕ) → HasNoFeed value → All (λ b. b ≢ 32) (low ++ high) → HasNoFeed slope →
@@ -100,13 +102,14 @@ SaysTrueRange moved name between IsOf output =
     ++ 10 ∷ (between ++ (codes "RANGE " ++ low ++ codes " " ++ high ++ codes " SLOPE " ++ slope ++ 10 ∷ behind)) →
     (m : Model) × IsOf m × IsTrueRange moved name m value low high slope
 
--- What an output says of each range is true of a model, whatever lines stand before its own.
+-- each range that an output lists, whatever lines stand before its own, is true of a model of the given kind
 abbrev pub SaysTrueRanges : (Model → Type 0) → List ℕ → Type 0
 SaysTrueRanges IsOf output =
     (moved : Moved) (name : Name) (before : List (List ℕ)) → All (λ b. b ≢ 32) name →
     SaysTrueRange moved name (ended_lines before ++ number_words moved name) IsOf output
 
--- So many limits of rows and bounds of columns are listed. No point meets them all, though each set of all but one is met.
+-- The bytes `behind` begin with the lines of as many limits of rows and bounds of columns of m as the text `count`
+-- says. No point meets them all, though each set of all but one is met by some point.
 pub record AreTrueSides (m : Model) (count behind : List ℕ) : Type 0 where
   pub sides : List Side
   pub counted : count ≡ decimal (length sides)
@@ -115,14 +118,15 @@ pub record AreTrueSides (m : Model) (count behind : List ℕ) : Type 0 where
   pub contrary : (z : List ℚ) → ¬ (MeetsAll m sides z)
   pub needed : (k : ℕ) → k < length sides → (z : List ℚ) × MeetsAll m (remove sides k) z
 
--- what an output says of infeasible sides is true of a model
+-- if an output says `INFEASIBLE` and then `IIS` with a count,
+-- the sides behind are true ones of a model of the given kind
 abbrev pub SaysTrueSides : (Model → Type 0) → List ℕ → Type 0
 SaysTrueSides IsOf output =
     (count behind : List ℕ) → HasNoFeed count → output ≡ codes "INFEASIBLE" ++ 10 ∷ (codes "IIS " ++ count ++ 10 ∷ behind) →
     (m : Model) × IsOf m × AreTrueSides m count behind
 
--- What each of them writes of the model of its text: an answer in the first line, behind the word YES, or in one of two lines,
--- and what stands behind the answer's line. `solve` and `basis` write an answer first.
+-- What a command's output says is true of a model of the given kind: an answer in the first line, behind the word YES,
+-- or in the first two lines; and a range or sides behind it, where the command writes such.
 abbrev pub IsTrueOfText : ExactTextCommand → (Model → Type 0) → List ℕ → Type 0
 IsTrueOfText SolveWide IsOf output = OfFirst (IsTrueLine IsOf IsWideNumber) output
 IsTrueOfText Check IsOf output = OfFirst (BehindYes (IsTrueLine IsOf IsNumber)) output
@@ -137,7 +141,7 @@ IsTrueOfText command IsOf output = OfFirst (IsTrueLine IsOf IsNumber) output
 
 -- ---- what lines ask of sessions, as far as it changes their models
 
--- how a request changes the model of a session: by the model before it and the line of the reply
+-- what a request makes of the model of a session: the model after it, by the one before it and the line of the reply
 abbrev pub Effect : Type 0
 Effect = Option Model → List ℕ → Option Model
 
@@ -146,8 +150,8 @@ pub record Asking : Type 0 where
   pub session : ℕ
   pub effect : Effect
 
--- An edit that is answered OK changes the model, QUIT drops it, and all else keeps it. Nothing is asked by a command before
--- its body has ended.
+-- The effect of a command in one line: an edit that is answered OK changes the model, QUIT drops it, and all else keeps
+-- it. LOAD and CHECK have none before the text behind them has ended.
 abbrev pub effects_of : ExactCommand → List Effect
 effects_of (commands.Load form) = []
 effects_of commands.Check = []
@@ -156,7 +160,7 @@ effects_of (commands.Plain (command.Change e)) =
 effects_of (commands.Plain command.Quit) = (λ held line. None) ∷ []
 effects_of other = (λ held line. held) ∷ []
 
--- a text that spells a model loads it
+-- the effect of a model's text: it becomes the session's model, or where the text is wrong the one before stays
 abbrev pub effect_of_text : Verdict → Effect
 effect_of_text (Spelled m) = λ held line. Some m
 effect_of_text (Refused n fault) = λ held line. held
@@ -165,7 +169,9 @@ effect_of_text (Refused n fault) = λ held line. held
 abbrev pub asked_of : ℕ → List Effect → List Asking
 asked_of session effects = map (λ effect. record { session = session; effect = effect }) effects
 
--- the effect of the request that a line completes, with its session, if it completes one
+-- The request that a line completes, by its session and its effect on the model: a list of one item, or none where the
+-- line completes none. Where a text or certificate has begun before the line, the line completes the request if it is
+-- the last one of that text or certificate.
 abbrev pub asked_in_line : Addressing → Pending → Line (List ℕ) → List Asking
 asked_in_line addressing Between next =
     unwrap_or (option_map (λ a. asked_of a.session (effects_of a.ask)) (addressed_in addressing next)) []
@@ -175,7 +181,8 @@ asked_in_line addressing (Text session form body) next =
 asked_in_line addressing (Certificate session body) next =
     asked_of session (if ends_certificate next then (λ held line. held) ∷ [] else [])
 
--- the effects of the requests that lines complete, from a text or certificate on that has begun before them, if any
+-- the requests that lines complete, in order, each as its session and its effect; `pending` is the text or certificate
+-- that has begun before the lines, if any
 abbrev pub asked_from : Addressing → Pending → List (Line (List ℕ)) → List Asking
 asked_from addressing pending [] = []
 asked_from addressing pending (next ∷ lines) =
@@ -201,7 +208,8 @@ pub record IsFramed (x : Told) : Type 0 where
   pub counted : Announces x.line (codes " " ++ decimal (length x.behind))
       ⊎ ((x.behind ≡ []) × ((more : List ℕ) → ¬ (Announces x.line more)))
 
--- the output of what was told: each line, with its session, and the lines behind it
+-- the output of what was told: each line, with its session's number before it where lines name sessions, and the lines
+-- behind it
 abbrev pub told_out : Addressing → List Told → List ℕ
 told_out addressing told = flat_map (λ x. front_of addressing x.asked.session ++ x.line ++ 10 ∷ ended_lines x.behind) told
 
@@ -209,11 +217,12 @@ told_out addressing told = flat_map (λ x. front_of addressing x.asked.session +
 abbrev pub model_told : ℕ → List Told → Option Model
 model_told session told = fold (λ held x. x.asked.effect held x.line) None (filter (λ x. x.asked.session == session) told)
 
--- a property holds of the first line behind a line of the word WIDE and a number
+-- if the reply's line is `WIDE` and a number, the property holds of the first line behind it
 abbrev pub BehindWide : (List ℕ → Type 0) → Told → Type 0
 BehindWide IsTrue x = (count : List ℕ) → x.line ≡ codes "WIDE " ++ count → OfFirst IsTrue (ended_lines x.behind)
 
--- a reply's line, of the model that the session has then
+-- What a reply says, in its line, behind `YES`, or in the first line behind `WIDE`, is true of the model that its
+-- session has after the replies before it.
 abbrev pub IsTrueReply : List Told → Told → Type 0
 IsTrueReply before x =
     let IsOf : Model → Type 0 = λ m. model_told x.asked.session before ≡ Some m in
@@ -248,7 +257,8 @@ pub record Tells (IsTrue : Option (List ℕ) → List ℕ → List ℕ → Type 
   pub front : IsPrefixOf written output
   pub is_true : IsTrue s.left_after read output
 
--- a server writes its answers to links
+-- The output is true for a command line, by the input that was read. A script's replies are true of their sessions'
+-- models, other commands' answers of their one model; of a server, which writes to links, nothing is asked.
 abbrev pub IsTrueOf : ExactLine → Option (List ℕ) → List ℕ → List ℕ → Type 0
 IsTrueOf (Run workers places) after read output = AreTrueReplies Numbered after read output
 IsTrueOf (Read command style) after read output = IsTrueOfText command (IsModelOf command style after read) output
@@ -256,7 +266,8 @@ IsTrueOf (Generate seed rows columns) after read output =
     OfFirstTwo (IsTrueLine (λ m. m ≡ generated seed rows columns) IsNumber) output
 IsTrueOf (Serve workers each places) after read output = Unit {0}
 
--- for words that are no command line nothing is written
+-- what is written is a beginning of an output that is true for the command line; where the words are no command line,
+-- nothing is written
 abbrev pub IsTrueOutput : Option ExactLine → Streams → Type 0
 IsTrueOutput None s = Appends s.taken_before s.taken_after []
 IsTrueOutput (Some command) s = Tells (IsTrueOf command) s

@@ -86,7 +86,8 @@ ghost use Rattle.spec_server.specs.Streams.{Streams};
 ghost use Rattle.spec_server.specs.Output.{ended_lines};
 ghost use Rattle.spec_serve.specs.Link.{AreFirstOf, HoldsOfAll, LinkMoves};
 
-/// What `solve` takes a text for is what the text spells within the limits of size, or the line and the fault that refuse it.
+/// `solve` takes a text for the model that it spells within the limits of size, or for the line and the fault that
+/// refuse it. Where the lines end before that is decided, they are refused as cut.
 pub fn solve_reads_what_texts_spell()
     ensures spelled { (limits : SizeLimits) (style : Style) (lines : List (Line (List ℕ))) (m : Model) →
         text_said_within limits style lines ≡ Some (Ok m) ↔ SpellsWithin limits style lines m }
@@ -134,7 +135,7 @@ pub fn wide_solved_texts_have_true_answers()
 
 /// `basis` takes its input for a model and a basis, or for the line and the fault that refuse the text or the file. The
 /// model is the one that the text spells within the limits of size. The basis is the one that the file behind it spells
-/// for the model's form.
+/// for the model's form; none, where it has no form. Lines that end before that is decided are refused as cut.
 pub fn basis_reads_what_texts_and_files_spell()
     ensures spelled { (limits : SizeLimits) (style : Style) (lines : List (Line (List ℕ))) (handed : Handed) →
         basis_said limits style lines ≡ Some (Ok handed) ↔ AreHanded limits style lines handed }
@@ -190,7 +191,7 @@ pub fn answers_from_bases_are_true_at_any_width()
 
 /// To a text with the certificate behind it that `solve`, `presolve` or `basis` wrote of it, `check` says yes, and that
 /// the same is known. `solve` and `presolve` write the certificate behind the answer's line, and `basis` behind the
-/// line after it.
+/// line after it. PAST and SPENT have no certificate, and of them nothing is said.
 pub fn written_certificates_are_accepted()
     ensures solve { (style : Style) (lines : List (Line (List ℕ))) (m : Model) (after : List (Line (List ℕ)))
         (written : List ℕ) (text : BeginsWithText usual_limits style lines m after) → SolveOut (Ok m) written →
@@ -208,10 +209,11 @@ pub fn written_certificates_are_accepted()
         × IsAccepted style (text.front ++ text.last ∷ []) answer behind }
 {}
 
-/// What `range` writes of a text that spells a model is true of the model. Where nothing has the name, it says so. Else
-/// it has the line of an answer and, after `OPTIMAL` alone, a line that says a range. With exactly the numbers in it in
-/// place of the one that the model has, the basis that shows the optimum shows one again. With each of them the optimal
-/// value is the stated one. The lines alone say it.
+/// What `range` writes of a text that spells a model is true of the model. Where it says that the name is unknown, no
+/// column or row has it. Where one has the name, it begins with the line of an answer; and where a line that says a
+/// range follows the line `OPTIMAL`, this is true too. With exactly the numbers in the range in place of the one that
+/// the model has, the basis that shows the optimum shows one again. With each of them the optimal value is the stated
+/// one. The lines alone say it.
 pub fn ranges_of_texts_are_true()
     ensures unknown { (style : Style) (lines : List (Line (List ℕ))) (m : Model) (moved : Moved) (name : Name)
         (what : TextSaid) (written : List ℕ) →
@@ -412,10 +414,10 @@ pub fn outputs_of_sessions_are_true()
         AreTrueReplies addressing after read (flat_map (λ x. reply_lines addressing x.session x.reply) exchanges) }
 {}
 
-/// Some false outputs are refuted, however they go on. Such is a range in which the value of the optimum is not the
-/// stated one, alone or behind another line. Such is an answer to a text up to its last line feed but one byte, where
-/// another byte is left. Over a link such is an answer that was true before an edit, behind a certificate of which each
-/// line would be a reply, were it not counted. So is another value as that of a wide solve.
+/// Some false outputs are refuted, however they go on. One is a range that holds right sides by which no point is
+/// feasible, alone or behind another range. One is an answer to a text without its last line feed, where the byte `X`
+/// comes next. One is, over a link, the value from before an edit, behind any certificate of four lines. One is a wrong
+/// value of a wide solve.
 pub fn false_outputs_are_refuted()
     ensures range { (after : Option (List ℕ)) (behind : List ℕ) →
         ¬ (is_true_of (lines.Read (of_text.Range moved.RightSide (codes "ROW")) form.Free) after ended_text
