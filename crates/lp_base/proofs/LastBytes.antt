@@ -36,13 +36,15 @@ module _ (without : List ℕ → List ℕ) (byte : ℕ) (none : without [] ≡ [
   one_more : (xs : List ℕ) (n m : ℕ) → n ≡ suc m → n ≤ length xs → take n xs ≡ take m xs ++ get_or xs m 0 ∷ []
   one_more xs n m q h = ap (λ k. take k xs) q ∙ take_suc xs m 0 (omega arith)
 
-  -- after another byte nothing is taken away
+  -- where the last of the first n bytes is not `byte`, `without`, which drops all bytes `byte` at the end of a text,
+  -- drops none of them
   pub stops_at : (xs : List ℕ) (n m : ℕ) → n ≡ suc m → n ≤ length xs → (get_or xs m 0 ≡ byte → ⊥) →
       without (take n xs) ≡ take n xs
   stops_at xs n m q h d =
       ap without (one_more xs n m q h) ∙ stay (take m xs) (get_or xs m 0) (ne_eqb _ _ d) ∙ sym (one_more xs n m q h)
 
-  -- such a byte at the end is taken away
+  -- where the last of the first n bytes is `byte`, `without`, which drops all bytes `byte` at the end of a text,
+  -- leaves the same of these as of the first n - 1
   pub goes_on : (xs : List ℕ) (n m : ℕ) → n ≡ suc m → n ≤ length xs → get_or xs m 0 ≡ byte →
       without (take m xs) ≡ without (take n xs)
   goes_on xs n m q h d =

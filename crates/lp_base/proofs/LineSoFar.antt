@@ -8,7 +8,8 @@
 -- `state_is`: a state of a reader of lines is given by its three fields.
 -- `breaks_off`: where the source fails with no byte ahead, the error `Read` is a right answer of `next`.
 -- `gives_last`: at the end of the input the last line, or `End` where no byte is left, is a right answer of `next`.
--- `still_ahead`: while no line feed was taken, one that was ahead at the start is still ahead.
+-- `still_ahead`: while no line feed was taken, some byte is still ahead where a line feed was ahead at the start.
+-- where a line feed was ahead, some byte is still ahead)
 -- `has_some`: `HasMore` with an answer that is `true`, with `true` put in.
 -- `has_none`: `HasMore` with an answer that is `false`, with `false` put in.
 -- `gives_no_memory`: where memory runs out before the input ends, the error `NoMemory` is a right answer of `next`.
@@ -34,6 +35,8 @@ use Rattle.lp_base.specs.declared.lines.LineStop.{LineStop}
 use Rattle.lp_base.specs.declared.lines.LineStop.TheVariants.{Read, NoMemory}
 use Rattle.lp_base.specs.declared.part.Part.{Part}
 
+-- within a call of `next`: these bytes were read, those taken have no line feed and are kept in the part, and the rest
+-- is unread
 pub record SoFar (before after : Option (List ℕ)) (old new : LinesState) (part : Part) : Type 0 where
   pub bytes : List ℕ
   pub raw : List ℕ

@@ -10,7 +10,7 @@ use Rattle.lp_base.specs.LinesState.{LinesState}
 use Rattle.lp_base.specs.NextLine.{IsKept, TakesRun}
 use Rattle.lp_base.specs.declared.part.Part.{Part}
 
--- what is left after this many bytes
+-- the state of a reader of lines after it has given this many of its unread bytes
 abbrev pub passed : LinesState → ℕ → LinesState
 passed old count = record { ahead = drop count old.ahead; given = old.given + count; ended = old.ended }
 
@@ -49,21 +49,27 @@ module _ (old : LinesState) (ahead : List ℕ) (is : ahead ≡ take (2 ^ 26 - ol
   len_is : length ahead ≡ min (2 ^ 26 - old.given) (length old.ahead)
   len_is = ap length is ∙ length-take (2 ^ 26 - old.given) old.ahead
 
+  -- the bytes that are looked at are no more than those unread
   pub ahead_some : length ahead ≤ length old.ahead
   ahead_some = omega (arith, len_is)
 
+  -- with the bytes that are looked at, at most 2 ^ 26 bytes are given
   pub ahead_room : old.given + length ahead ≤ 2 ^ 26
   ahead_room = omega (arith, len_is, room)
 
+  -- the bytes up to a place among those looked at, with the one there, are no more than those unread
   pub at_some : (at : ℕ) → at < length ahead → at + 1 ≤ length old.ahead
   at_some at h = omega (arith, ahead_some, h)
 
+  -- with the bytes up to a place among those looked at, and the one there, at most 2 ^ 26 bytes are given
   pub at_room : (at : ℕ) → at < length ahead → old.given + (at + 1) ≤ 2 ^ 26
   at_room at h = omega (arith, ahead_room, h)
 
+  -- a line no longer than the bytes given has, with the bytes that are looked at, a length below 2 ^ 64
   pub ahead_fits : (len : ℕ) → len ≤ old.given → len + length ahead < 2 ^ 64
   ahead_fits len h = omega (arith, ahead_room, h)
 
+  -- a line no longer than the bytes given has, with the first `at` bytes that are looked at, a length below 2 ^ 64
   pub front_fits : (len at : ℕ) → len ≤ old.given → len + length (take at ahead) < 2 ^ 64
   front_fits len at h = omega (arith, ahead_room, length-take at ahead, h)
 

@@ -1,7 +1,8 @@
 -- Where a reader of lines stands.
 use Rattle.std.specs.Prelude.{ℕ, List, [], Bool, false}
 
--- the bytes that were read and not given yet, how many were given, and whether the input has ended
+-- the state of a reader of lines: the bytes read and not given yet, how many were given,
+-- and whether the input has ended
 pub record LinesState : Type 0 where
   pub ahead : List ℕ
   pub given : ℕ

@@ -19,7 +19,7 @@ mem_link_state link = record {
 abbrev pub IsUnwritten : MemLink → Type 0
 IsUnwritten link = bytes_taken link.sink ≡ []
 
--- an event that the listener in memory remembers, by the link's state then
+-- an event that the listener in memory remembers, as the definitions have it: with the link's state then
 abbrev pub event_of : MemEvent → LinkEvent
 event_of (Given link) = links.Given (mem_link_state link.value)
 event_of (Returned link) = links.Returned (mem_link_state link.value)

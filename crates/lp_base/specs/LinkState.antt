@@ -2,16 +2,15 @@
 use Rattle.std.specs.Prelude.{ℕ, ◌≡◌, List, [], Option, Some, None}
 use Rattle.lp_base.specs.Beside.{SinkState, SourceState}
 
--- the state of a source by the bytes left and its count of faults
+-- the state of a source with these bytes left and this count of faults
 abbrev pub source_of : Option (List ℕ) → ℕ → SourceState
 source_of left faults = record { left = left; read_faults = faults }
 
--- the state of a sink by the bytes taken and its count of faults
+-- the state of a sink that took these bytes, with this count of faults
 abbrev pub sink_of : Option (List ℕ) → ℕ → SinkState
 sink_of taken faults = record { taken = taken; write_faults = faults }
 
--- the bytes still to be read of a link and the bytes that it took, where they are known, and how often reads and writes
--- failed
+-- what is known of a link: the state of its source and that of its sink
 pub record LinkState : Type 0 where
   pub source : SourceState
   pub sink : SinkState
@@ -23,7 +22,7 @@ state_of left read_faults taken write_faults link = record {
   sink = sink_of (taken link) (write_faults link);
 }
 
--- the bytes are none, where they are known
+-- if the bytes are known, there are none
 abbrev pub IsNothing : Option (List ℕ) → Type 0
 IsNothing None = Unit {0}
 IsNothing (Some bytes) = bytes ≡ []

@@ -12,19 +12,20 @@ use Rattle.lp_base.specs.declared.lines.LineStop.{LineStop}
 use Rattle.lp_base.specs.declared.lines.LineStop.TheVariants.{Read, NoMemory}
 use Rattle.lp_base.specs.declared.part.Part.{Part}
 
--- what a reader keeps of a line with these bytes: the first ones, up to a limit, their number, and the last byte
+-- the part is what a reader keeps of a line with these bytes: the first of them, up to one more than a line may have,
+-- their number, and the last byte, or 0 of no bytes
 pub record IsKept (part : Part) (raw : List ℕ) : Type 0 where
   pub bytes : part.bytes.items ≡ take (line_limit + 1) raw
   pub len : part.len ≡ length raw
   pub last : part.last ≡ slice_index raw (length raw - 1)
 
--- what follows a run of bytes: a line feed, where one was found
+-- the bytes behind a run: with the line feed that was found before them; or as they are
 abbrev pub behind : Bool → List ℕ → List ℕ
 behind true after = 10 ∷ after
 behind false after = after
 
--- bytes with no line feed are moved from the start to the part, and the line feed after them,
--- where one was found, is taken
+-- The reader moves at least one byte: a run without a line feed goes from its unread bytes to the part of a line, and
+-- the line feed behind it, if one was found, is taken too.
 pub record TakesRun (old new : LinesState) (before after : Part) (found : Bool) : Type 0 where
   pub run : List ℕ
   pub plain : All (λ b. b ≢ 10) run
@@ -35,37 +36,41 @@ pub record TakesRun (old new : LinesState) (before after : Part) (found : Bool) 
   pub ended : new.ended ≡ old.ended
   pub kept : (raw : List ℕ) → IsKept before raw → IsKept after (raw ++ run)
 
--- the input had ended before, and nothing was read, or nothing is left now
+-- the input has ended: it had before, and nothing was read; or it had not, and nothing is left now
 abbrev pub HasEnded : LinesState → Option (List ℕ) → Option (List ℕ) → Type 0
 HasEnded old before after = ((old.ended ≡ true) × (after ≡ before)) ⊎ ((old.ended ≡ false) × IsAtEnd after)
 
--- some bytes of the buffer are unread, or the input has ended
+-- some bytes of the buffer are unread and the input has not ended, as the flag says; or none is unread and it has
 abbrev pub HasMore : Bool → LinesState → LinesState → Option (List ℕ) → Option (List ℕ) → Type 0
 HasMore true old new before after = (0 < length new.ahead) × (old.ended ≡ false) × (new.ended ≡ false)
 HasMore false old new before after = (new.ahead ≡ []) × (new.ended ≡ true) × HasEnded old before after
 
--- Bytes were read into the buffer, unless some in it were unread. Where none is unread now, the input has ended.
+-- The reader read bytes behind its unread ones, and says whether some are unread now; where none is, the input has
+-- ended. Or the source failed, and all is as it was.
 abbrev pub ReadsOn : Option (List ℕ) → Option (List ℕ) → LinesState → LinesState → Result Bool Failed → Type 0
 ReadsOn before after old new (Ok more) =
     (bytes : List ℕ) × Consumes before after bytes × (new.ahead ≡ old.ahead ++ bytes)
     × (new.given ≡ old.given) × HasMore more old new before after
 ReadsOn before after old new (Err e) = Keeps before after × (old.ahead ≡ []) × (old.ended ≡ false) × (new ≡ old)
 
--- the bytes up to a line feed are taken from the start, and the line feed
+-- the line is that of the bytes `before` up to their first line feed, less one carriage return at their end: these
+-- bytes, or their number where they are too many. They and the line feed are taken, and `after` is what stays
 pub record TakesEnded (before after : List ℕ) (line : Line (List ℕ)) : Type 0 where
   pub raw : List ℕ
   pub plain : All (λ b. b ≢ 10) raw
   pub cut : before ≡ raw ++ 10 ∷ after
   pub is : line ≡ line_of (strip_carriage_return raw)
 
--- all bytes are taken, which have no line feed
+-- the line is that of all bytes `before`, as they stand: these bytes, or their number where they are too many. There
+-- are some, they have no line feed, and none stays
 pub record TakesLast (before after : List ℕ) (line : Line (List ℕ)) : Type 0 where
   pub some : 0 < length before
   pub plain : All (λ b. b ≢ 10) before
   pub all : after ≡ []
   pub is : line ≡ line_of before
 
--- the line, with what was read in the call, of which less than a buffer is not the line's
+-- the reader gives this line, of its unread bytes and those read in the call;
+-- of the others less than a buffer stays unread
 pub record GivesLine (after : Option (List ℕ)) (old : LinesState)
     (bytes : List ℕ) (new : LinesState) (line : Line (List ℕ)) : Type 0 where
   pub live : old.ended ≡ false
@@ -75,7 +80,7 @@ pub record GivesLine (after : Option (List ℕ)) (old : LinesState)
   pub bound : new.given ≤ 2 ^ 26
   pub near : length new.ahead < 4096
 
--- no byte is left
+-- the reader has no byte left, and the input has ended
 pub record GivesEnd (before after : Option (List ℕ)) (old : LinesState)
     (bytes : List ℕ) (new : LinesState) : Type 0 where
   pub none : old.ahead ++ bytes ≡ []
@@ -83,7 +88,8 @@ pub record GivesEnd (before after : Option (List ℕ)) (old : LinesState)
   pub bound : old.given ≤ 2 ^ 26
   pub ended : HasEnded old before after
 
--- no line ends within the first 2 ^ 26 bytes, and there are more, of which no more than a buffer was read
+-- The input is too long: after the lines that were given no further one ends within its first 2 ^ 26 bytes, and there
+-- are more, of which at most a buffer was read.
 pub record IsOver (old : LinesState) (bytes : List ℕ) : Type 0 where
   pub live : old.ended ≡ false
   pub raw : List ℕ
@@ -94,14 +100,14 @@ pub record IsOver (old : LinesState) (bytes : List ℕ) : Type 0 where
   pub more : 0 < length rest
   pub near : length rest ≤ 4096
 
--- the source failed in the middle of a line, whose bytes up to there are given up
+-- the source failed before the end of a line, whose bytes up to there are given up, though they count as given
 pub record IsBrokenOff (old : LinesState) (bytes : List ℕ) (new : LinesState) : Type 0 where
   pub live : old.ended ≡ false
   pub plain : All (λ b. b ≢ 10) (old.ahead ++ bytes)
   pub stands : new ≡ record { ahead = []; given = old.given + length (old.ahead ++ bytes); ended = false }
   pub bound : old.given + length (old.ahead ++ bytes) ≤ 2 ^ 26
 
--- memory is wanting in a line, which has not ended in the bytes that were read before the last buffer
+-- memory is wanting for a line, which has not ended in the bytes that were read before the last buffer
 pub record IsGivenUp (old : LinesState) (bytes : List ℕ) : Type 0 where
   pub live : old.ended ≡ false
   pub raw : List ℕ
@@ -110,7 +116,8 @@ pub record IsGivenUp (old : LinesState) (bytes : List ℕ) : Type 0 where
   pub cut : old.ahead ++ bytes ≡ raw ++ rest
   pub near : length rest ≤ 4096
 
--- an answer of `next` is right, with the bytes that were read in the call
+-- The reader's answer is right for the bytes read in the call: a line, the end of the input, an input that is too long,
+-- a failed source, or no memory.
 abbrev pub AnswersWith : Option (List ℕ) → Option (List ℕ) → LinesState → List ℕ → LinesState →
     Result (Line (List ℕ)) LineStop → Type 0
 AnswersWith before after old bytes new (Ok (Text text)) = GivesLine after old bytes new (Text text)
@@ -120,7 +127,7 @@ AnswersWith before after old bytes new (Ok Over) = IsOver old bytes
 AnswersWith before after old bytes new (Err Read) = IsBrokenOff old bytes new
 AnswersWith before after old bytes new (Err NoMemory) = IsGivenUp old bytes
 
--- some bytes were read, and the answer is about them
+-- some bytes, perhaps none, were read of the source, and the reader's answer is right for its unread bytes and these
 pub record GivesNext (before after : Option (List ℕ)) (old new : LinesState)
     (result : Result (Line (List ℕ)) LineStop) : Type 0 where
   pub bytes : List ℕ

@@ -9,23 +9,25 @@ use Rattle.lp_base.specs.NextLine.{GivesNext}
 use Rattle.lp_base.specs.declared.lines.LineStop.{LineStop}
 use Rattle.lp_base.specs.declared.lines.LineStop.TheVariants.{Read, NoMemory}
 
--- whatever bytes follow `raw`, the lines of them all begin with these lines
+-- whatever bytes follow `raw`, the lines of them all are these lines and then those of the bytes that follow; so are
+-- the lines that a line feed ends
 pub record BeginsWith (raw : List ℕ) (lines : List (Line (List ℕ))) : Type 0 where
   pub all : (more : List ℕ) → lines_of (raw ++ more) ≡ lines ++ lines_of more
   pub ended : (more : List ℕ) → ended_lines_of (raw ++ more) ≡ lines ++ ended_lines_of more
 
--- these are all the lines of an input, which has ended
+-- the input has ended, these are all lines of the bytes `raw`, and none is unread
 pub record IsWhole (after : Option (List ℕ)) (raw ahead : List ℕ) (lines : List (Line (List ℕ))) : Type 0 where
   pub all : lines_of raw ≡ lines
   pub none : ahead ≡ []
   pub at_end : IsAtEnd after
 
--- more may follow, unless the input has ended
+-- what lines taken of the bytes `raw` are, by whether the input has ended: all of its lines, or its first ones,
+-- whatever bytes follow
 abbrev pub Tells : Bool → Option (List ℕ) → List ℕ → List ℕ → List (Line (List ℕ)) → Type 0
 Tells false after raw ahead lines = BeginsWith raw lines
 Tells true after raw ahead lines = IsWhole after raw ahead lines
 
--- from what was ahead and the bytes that were read in between, these lines were taken
+-- these lines were taken, of the reader's unread bytes and those read since; the reader goes from `old` to `new`
 pub record TakesLines (after : Option (List ℕ)) (old : LinesState) (bytes : List ℕ)
     (new : LinesState) (lines : List (Line (List ℕ))) : Type 0 where
   pub live : old.ended ≡ false
@@ -36,7 +38,7 @@ pub record TakesLines (after : Option (List ℕ)) (old : LinesState) (bytes : Li
   pub near : length old.ahead < 4096 → length new.ahead < 4096
   pub told : Tells new.ended after raw new.ahead lines
 
--- the input had ended before, and nothing is taken any more
+-- the input had ended before: nothing is read, no line is taken, and the reader stays
 pub record StaysEnded (before after : Option (List ℕ)) (old : LinesState)
     (bytes : List ℕ) (new : LinesState) (lines : List (Line (List ℕ))) : Type 0 where
   pub ended : old.ended ≡ true
@@ -45,14 +47,14 @@ pub record StaysEnded (before after : Option (List ℕ)) (old : LinesState)
   pub stays : new ≡ old
   pub none : lines ≡ []
 
--- some bytes were read, and these lines were taken
+-- some bytes were read, and these lines were taken, or none, as the input had ended before
 pub record ReadsLines (before after : Option (List ℕ))
     (old new : LinesState) (lines : List (Line (List ℕ))) : Type 0 where
   pub bytes : List ℕ
   pub moved : Consumes before after bytes
   pub taken : TakesLines after old bytes new lines ⊎ StaysEnded before after old bytes new lines
 
--- these lines were taken, and the next answer is the last one
+-- these lines were taken, and then the reader answered with this result
 pub record ReadsUntil (before after : Option (List ℕ)) (first : LinesState)
     (lines : List (Line (List ℕ))) (result : Result (Line (List ℕ)) LineStop) : Type 0 where
   pub mid : Option (List ℕ)
@@ -69,13 +71,13 @@ pub record ReadsAll (before after : Option (List ℕ)) (lines : List (Line (List
   pub bound : length read ≤ 2 ^ 26
   pub at_end : IsAtEnd after
 
--- the input was read in part, and these are the lines that end within what may be read
+-- a part of the input was read, and these are its lines that end within the most bytes that may be read
 pub record ReadsFront (before after : Option (List ℕ)) (lines : List (Line (List ℕ))) : Type 0 where
   pub read : List ℕ
   pub moved : Consumes before after read
   pub ended : ended_lines_of (take input_limit read) ≡ lines
 
--- beyond the bytes of these lines, a part of the next one was read, and no more than a buffer after it
+-- what was read are the bytes of these lines, then a part of the next one, and no more than a buffer behind that
 pub record ReadsLittleMore (read : List ℕ) (lines : List (Line (List ℕ))) : Type 0 where
   pub raw : List ℕ
   pub part : List ℕ
@@ -85,24 +87,25 @@ pub record ReadsLittleMore (read : List ℕ) (lines : List (Line (List ℕ))) : 
   pub plain : All (λ b. b ≢ 10) part
   pub near : length ahead ≤ 4096
 
--- these lines were taken before the source failed, and little more was read
+-- these are all lines that end in what was read before the source failed, and little more was read
 pub record ReadsToFault (before after : Option (List ℕ)) (lines : List (Line (List ℕ))) : Type 0 where
   pub front : ReadsFront before after lines
   pub near : ReadsLittleMore front.read lines
 
--- the input was read in part, and more lines than these may end in it
+-- these are the first lines that end in what was read, perhaps not all, and little more was read
 pub record ReadsPart (before after : Option (List ℕ)) (lines : List (Line (List ℕ))) : Type 0 where
   pub more : List (Line (List ℕ))
   pub front : ReadsFront before after (lines ++ more)
   pub near : ReadsLittleMore front.read lines
 
--- the input is longer than may be read
+-- the input is longer than may be read, these are all lines that end within that, and little more was read
 pub record ReadsPast (before after : Option (List ℕ)) (lines : List (Line (List ℕ))) : Type 0 where
   pub front : ReadsFront before after lines
   pub past : 2 ^ 26 < length front.read
   pub near : ReadsLittleMore front.read lines
 
--- where a source fails, all lines that end were taken; where memory runs out, there may be more
+-- these are the lines taken before a reader stopped: all that end, where the source failed; perhaps not all, where
+-- memory ran out
 abbrev pub StopsWith : LineStop → Option (List ℕ) → Option (List ℕ) → List (Line (List ℕ)) → Type 0
 StopsWith Read before after lines = ReadsToFault before after lines
 StopsWith NoMemory before after lines = ReadsPart before after lines

@@ -22,6 +22,7 @@ impl Model for Name {
 }
 
 impl Drop for Name {
+    /// Frees the memory of the name's bytes.
     fn drop(self) {
         let Name { text } = self;
         drop(text);
@@ -53,6 +54,7 @@ impl Name {
 }
 
 impl fmt::Debug for Name {
+    /// Writes the name between quotes, each byte as the character of its number.
     fn fmt<W: fmt::Write>(&self, f: &mut fmt::Formatter<W>) -> fmt::Result {
         write!(f, "{:?}", self.text)
     }

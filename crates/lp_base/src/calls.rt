@@ -15,7 +15,7 @@ pub(crate) struct Calls {
 }
 
 impl Calls {
-    // No call was made yet. Those with these numbers will fail.
+    // The counter before any call. The calls with these numbers, counted from 1, will fail.
     pub(crate) fn new(fails: Vec<u64>) -> Self
         ensures { result ≡ record { fails = fails; next = 1; faults = 0 } }
     {
@@ -26,7 +26,7 @@ impl Calls {
         }
     }
 
-    // Counts a call, which fails where it is listed.
+    // Counts the next call. Where its number is listed, the call fails and counts as a fault too.
     pub(crate) fn begin(&mut self) -> Result<(), Failed>
         ensures fails { self.new.fails ≡ self.old.fails }
         ensures next { self.new.next ≡ min (self.old.next + 1) (2 ^ 64 - 1) }

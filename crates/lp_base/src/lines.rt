@@ -37,6 +37,7 @@ pub enum LineStop {
 impl From<Failed> for LineStop {
     ghost from_gives = { λ _ e. e ≡ Read };
 
+    /// The stop for a source that failed: `Read`.
     fn from(_: Failed) -> Self {
         LineStop::Read
     }
@@ -45,6 +46,7 @@ impl From<Failed> for LineStop {
 impl From<AllocError> for LineStop {
     ghost from_gives = { λ _ e. e ≡ NoMemory };
 
+    /// The stop for memory that was refused: `NoMemory`.
     fn from(_: AllocError) -> Self {
         LineStop::NoMemory
     }
@@ -74,6 +76,7 @@ impl Model for Lines {
 }
 
 impl Drop for Lines {
+    /// Frees the memory of the buffer.
     fn drop(self) {
         let Lines {
             alloc: _,
@@ -88,7 +91,8 @@ impl Drop for Lines {
 }
 
 impl Lines {
-    /// A reader with an empty buffer, at the start of its input. It takes the memory of the buffer.
+    /// A reader that has read nothing, at the start of its input, or an error without memory for its buffer of 4,096
+    /// bytes.
     pub fn new(alloc: Global) -> Result<Self, AllocError>
         ensures { IfOk result (λ lines. lines ≡ at_start) }
     {
@@ -103,7 +107,9 @@ impl Lines {
         })
     }
 
-    /// The next line. After `Over` or an `Err` no further line is promised; after `End` only `End` comes.
+    /// The next line of the source, without what ends it: its bytes, or its length where it is too long to be kept. Or
+    /// `End` where none is left, or `Over` where the line does not end within the first 2^26 bytes of the input.
+    /// After `Over` or an `Err` no further line is promised; after `End` only `End` comes.
     /// Nothing is read in vain: beyond a line that is given, or the part of one, at most a buffer of 4,096 bytes is.
     pub fn next<S: Source>(&mut self, source: &mut S) -> Result<Line, LineStop>
         ensures line { GivesNext (S.left source.old) (S.left source.new) self.old self.new result }
@@ -129,7 +135,7 @@ impl Lines {
         Ok(line.last_line())
     }
 
-    // Whether as many bytes were given as an input may have.
+    // Whether as many bytes were given of the input as it may have, 2^26.
     fn is_full(&self) -> bool
         ensures full { IsTrue result ↔ (self.now.given ≡ 2 ^ 26) }
         ensures bound { self.now.given ≤ 2 ^ 26 }
@@ -137,7 +143,8 @@ impl Lines {
         self.given == MAX_INPUT
     }
 
-    // Reads into the buffer where no byte in it is unread, and says whether one is then.
+    // Reads into the buffer where no byte in it is unread, and says whether one is then. It reads nothing once the
+    // input has ended.
     fn has_more<S: Source>(&mut self, source: &mut S) -> Result<bool, Failed>
         ensures moved { ReadsOn (S.left source.old) (S.left source.new) self.old self.new result }
         ensures ended { self.old.ended ≡ true → (result ≡ Ok false) × (S.left source.new ≡ S.left source.old) }
@@ -160,7 +167,7 @@ impl Lines {
         Ok(count > 0)
     }
 
-    // The unread bytes of the buffer, as many as may still be given.
+    // The unread bytes of the buffer, but no more than may still be given of an input.
     fn ahead(&self) -> &[u8]
         ensures { result.now ≡ take (2 ^ 26 - self.now.given) self.now.ahead }
     {
@@ -180,7 +187,8 @@ impl Lines {
         self.given += count as u64;
     }
 
-    // Moves unread bytes to the line, up to a line feed, which is skipped, and says whether there was one.
+    // Moves the unread bytes of the buffer to the line, up to a line feed, which is skipped; says whether there was
+    // one. It moves no more bytes than may still be given of an input.
     fn take_run(&mut self, line: &mut Part) -> Result<bool, AllocError>
         requires some { 0 < length self.old.ahead }
         requires room { self.old.given < 2 ^ 26 }
@@ -204,7 +212,7 @@ impl Lines {
     }
 }
 
-// The place of the first line feed.
+// The place of the first line feed; none if there is none.
 fn line_feed_at(bytes: &[u8]) -> Option<usize>
     ensures { MatchOption result (All (λ b. b ≢ 10) bytes.now)
         (λ at. (at < length bytes.now) × (slice_index bytes.now at ≡ 10) × All (λ b. b ≢ 10) (take at bytes.now)) }

@@ -32,6 +32,7 @@ impl<T> Model for Items<T> {
 
 // By hand, so that it is proved here once: a derived drop is proved anew by each crate that lets go a list.
 impl<T: Drop> Drop for Items<T> {
+    /// Drops the items, and frees the memory of the list.
     fn drop(self) {
         let Items { items } = self;
         drop(items);
@@ -94,7 +95,7 @@ impl<T> Items<T> {
 }
 
 impl<T: Drop> Items<T> {
-    /// Adds an item at the end.
+    /// Adds an item at the end. Without memory the list stays as it was.
     pub fn push(&mut self, item: T) -> Result<(), AllocError>
         ensures ok { OnOk result (self.new ≡ self.old ++ item ∷ []) }
         ensures err { OnErr result (self.new ≡ self.old) }
@@ -103,7 +104,7 @@ impl<T: Drop> Items<T> {
         Ok(())
     }
 
-    /// Adds an item at `place`; the items from there on move up by one.
+    /// Adds an item at `place`; the items from there on move up by one. Without memory the list stays as it was.
     pub fn insert(&mut self, place: usize, item: T) -> Result<(), AllocError>
         requires { place ≤ length self.old }
         ensures ok { OnOk result (self.new ≡ insert self.old place item) }
@@ -113,7 +114,7 @@ impl<T: Drop> Items<T> {
         Ok(())
     }
 
-    /// Takes the item at `place` out and moves those after it down by one.
+    /// Takes the item at `place` out, drops it, and moves those after it down by one.
     pub fn remove(&mut self, place: usize)
         requires { place < length self.old }
         ensures { self.new ≡ remove self.old place }
@@ -147,7 +148,7 @@ impl<T: Copy> Items<T> {
         self.items[i]
     }
 
-    /// Adds copies of the items at the end.
+    /// Adds copies of the items at the end. Without memory the list stays as it was.
     pub fn extend(&mut self, items: &[T]) -> Result<(), AllocError>
         ensures ok { OnOk result (self.new ≡ self.old ++ items.now) }
         ensures err { OnErr result (self.new ≡ self.old) }
@@ -159,6 +160,7 @@ impl<T: Copy> Items<T> {
 
 /// A list of bytes as a text in quotes, each byte as the character of its number.
 impl fmt::Debug for Items<u8> {
+    /// Writes the bytes between quotes, each as the character of its number.
     fn fmt<W: fmt::Write>(&self, f: &mut fmt::Formatter<W>) -> fmt::Result {
         f.write_char('"')?;
         for byte in self.as_slice() {

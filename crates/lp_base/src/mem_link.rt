@@ -57,7 +57,8 @@ impl Source for MemLink {
 
     ghost beside_reads = { λ l. sink_of (Some (bytes_taken l.sink)) (sink_faults l.sink) };
 
-    // Reads the next bytes of the pieces into the buffer and counts the read. What was written is left as it is.
+    // Counts the read, and copies the next bytes of the pieces into the buffer unless the read's number is listed. What
+    // was written is left as it is.
     fn read(&mut self, buf: &mut [u8]) -> Result<usize, Failed>
         ensures bound { ReadsAtMost result buf.new }
         ensures bytes { ReadConsumes (Some (unread self.old.source)) (Some (unread self.new.source)) result buf.new }
@@ -83,7 +84,8 @@ impl Sink for MemLink {
 
     ghost beside_writes = { λ l. source_of (Some (unread l.source)) (source_faults l.source) };
 
-    // Keeps all bytes of the piece and counts the write. The pieces still to be read are left as they are.
+    // Counts the write, and keeps all bytes of the piece unless the write's number is listed or memory runs out. The
+    // pieces still to be read are left as they are.
     fn write(&mut self, piece: &[u8]) -> Result<usize, Failed>
         ensures bound { WritesAtMost result piece.now }
         ensures all { IfOk result (λ n. n ≡ length piece.now) }

@@ -37,7 +37,8 @@ impl MemListen {
     ghost use Rattle.lp_base.specs.MemListening.{links_waiting, links_returned, link_log};
     ghost use Rattle.lp_base.specs.MemListening.{next_accept, failing_accepts, listen_faults};
 
-    /// Listens for these links, to none of which anything was written yet.
+    /// A listener that will give these links in this order; nothing was written to them yet. The accepts with the
+    /// numbers in `fails`, counted from 1, will fail.
     pub fn new(alloc: Global, links: Vec<MemLink>, fails: Vec<u64>) -> Result<Self, AllocError>
         requires { All IsUnwritten links.items }
         ensures waiting { IfOk result (λ net. links_waiting net ≡ links.items) }

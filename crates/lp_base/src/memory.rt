@@ -42,7 +42,8 @@ impl MemSource {
         }
     }
 
-    // Gives from the next piece, as much as there is room for.
+    // Copies the next piece that is not empty, or its rest, into the buffer, as much as there is room for; gives the
+    // number of bytes, which is 0 where no such piece is left.
     fn give(&mut self, buf: &mut [u8]) -> usize
         ensures bound { result ≤ length buf.new }
         ensures len { length buf.new ≡ length buf.old }
@@ -66,7 +67,7 @@ impl MemSource {
     }
 }
 
-// Copies the first bytes, as many as there is room for, and gives their number.
+// Copies the first of the bytes to the start of the buffer, as many as it has room for, and gives their number.
 fn copy_front(bytes: &[u8], buf: &mut [u8]) -> usize
     ensures count { result ≡ min (length bytes.now) (length buf.old) }
     ensures len { length buf.new ≡ length buf.old }

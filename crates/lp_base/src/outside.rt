@@ -23,7 +23,8 @@ pub trait Source {
     /// The state of the sink on the same object, which a read leaves as it is.
     ghost beside_reads: { Self → SinkState };
 
-    /// Moves bytes from the start of what is left. None, with room for some, is the end.
+    /// Moves bytes from the start of what is left into the buffer, and gives how many. 0, with room for some, is the
+    /// end.
     fn read(&mut self, buf: &mut [u8]) -> Result<usize, Failed>
         ensures bound { ReadsAtMost result buf.new }
         ensures bytes { ReadConsumes (left self.old) (left self.new) result buf.new }
@@ -42,7 +43,7 @@ pub trait Sink {
     /// The state of the source on the same object, which a write leaves as it is.
     ghost beside_writes: { Self → SourceState };
 
-    /// Takes some bytes from the start of the piece.
+    /// Takes some bytes from the start of the piece, and gives how many: one at least, if there is one.
     fn write(&mut self, piece: &[u8]) -> Result<usize, Failed>
         ensures bound { WritesAtMost result piece.now }
         ensures some { IfOk result (λ n. 0 < length piece.now → 0 < n) }
@@ -56,7 +57,7 @@ pub trait Sink {
 #[error("the sink failed")]
 pub struct WriteFault;
 
-/// Writes all of the piece.
+/// Writes all of the piece, in as many writes as that takes. Where a write fails, the sink has taken a beginning of it.
 pub fn send<K: Sink>(out: &mut K, piece: &[u8]) -> Result<(), WriteFault>
     ensures ok { OnOk result (Appends (K.taken out.old) (K.taken out.new) piece.now) }
     ensures part { Takes (K.taken out.old) (K.taken out.new) piece.now }

@@ -48,7 +48,7 @@ impl Part {
         Ok(())
     }
 
-    /// The line, which has no line feed after it.
+    /// The line of the bytes that were read, which has no line feed after it; the end of the input, if none were read.
     pub fn last_line(self) -> Line
         ensures some { (raw : List ℕ) → IsKept self raw → 0 < length raw → result ≡ line_of raw }
         ensures none { IsKept self [] → result ≡ End }
@@ -60,7 +60,7 @@ impl Part {
         self.cut(len)
     }
 
-    /// The line, which has a line feed after it.
+    /// The line of the bytes that were read, which has a line feed after it. A carriage return at its end is left out.
     pub fn ended_line(self) -> Line
         ensures { (raw : List ℕ) → IsKept self raw → result ≡ line_of (strip_carriage_return raw) }
     {

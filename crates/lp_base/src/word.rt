@@ -14,7 +14,7 @@ macro_rules! by_word {
     };
 }
 
-/// The value beside a word in a table.
+/// The value beside the first mention of a word in a table; none where the table does not have the word.
 pub fn look_up<T: Copy>(word: &[u8], table: &[(&[u8], T)]) -> Option<T>
     ensures { result ≡ beside word.now table.now }
 {
