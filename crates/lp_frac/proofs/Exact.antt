@@ -3,7 +3,8 @@
 -- `in_lowest`: a numerator and a denominator divided by their greatest common divisor are lowest terms, no larger than
 --   before.
 -- `scaled_same`: factors that bring two denominators to the same one give the same difference as cross products.
--- `product_of_short`: the products of the parts of short fractions, where both fit 64 bits, are parts of the product.
+-- `product_of_short`: the products of the parts of short fractions, where both fit 64 bits with a sign, are parts of
+--   the product.
 -- `less_short`: where parts of the product and of `s` are short, `s` less the product is not refused, and is as
 --   computed.
 -- `less_small`: where the parts of all three fractions are small, `s` less the product is not refused, and is as
@@ -94,6 +95,7 @@ sub_fits v w h k =
     k
 
 -- ---- the parts of a product
+-- the size of q's numerator is at most n, and q's denominator at most d
 record IsBelow (q : ℚ) (n d : ℕ) : Type 0 where
   num : unsigned_abs q.num ≤ n
   den : q.den ≤ d
@@ -153,6 +155,8 @@ less_fits v w s h k l m =
     ∙ ap Ok (less_exact v w s)
 
 -- ---- lowest terms
+-- p and q are the lowest terms of num / den: q is above 0, they have no factor in common, p is no larger in size than
+-- num and q no larger than den, and p / q is num / den
 pub record IsLowest (num : ℤ) (den : ℕ) (p : ℤ) (q : ℕ) : Type 0 where
   pub positive : 0 < q
   pub lowest : gcd (unsigned_abs p) q ≡ 1

@@ -10,7 +10,7 @@ ghost use Rattle.lp_frac.specs.OddPart.{IsOddPart};
 // The largest number of 64 bits.
 const SHORT: u128 = u64::MAX as u128;
 
-// A number without its factors 2.
+// A number above 0 without its factors 2.
 fn odd_part(n: u64) -> u64
     requires { 0 < n }
     ensures { IsOddPart n (trailing_zeros w64 n) result }
@@ -18,8 +18,8 @@ fn odd_part(n: u64) -> u64
     n >> n.trailing_zeros()
 }
 
-// The difference of two odd numbers, without its factors 2. It has as many whichever is the larger, so
-// that their count waits for no comparison.
+// The absolute difference of two odd numbers that differ, without its factors 2. These are counted in the wrapping
+// difference, so that their count waits for no comparison.
 fn odd_gap(x: u64, y: u64) -> u64
     requires x_odd { x % 2 ≡ 1 }
     requires y_odd { y % 2 ≡ 1 }
@@ -50,7 +50,7 @@ fn odd_common(a: u64, b: u64) -> u64
     x
 }
 
-// The greatest common divisor, where neither number is 0.
+// The greatest common divisor of two numbers of 64 bits, neither of which is 0.
 fn twos_common(a: u64, b: u64) -> u64
     requires a_positive { 0 < a }
     requires b_positive { 0 < b }
@@ -60,8 +60,8 @@ fn twos_common(a: u64, b: u64) -> u64
     odd_common(odd_part(a), odd_part(b)) << twos
 }
 
-// The greatest common divisor, after one remainder by the second number, which is not the larger, where
-// that is shorter by more than 7 bits.
+// The greatest common divisor of two numbers of 64 bits, the second of which is not the larger. Where it is not 0 and
+// shorter by more than 7 bits, one remainder is taken first.
 fn stepped_common(a: u64, b: u64) -> u64
     requires { b ≤ a }
     ensures { result ≡ gcd a b }
@@ -79,7 +79,7 @@ fn stepped_common(a: u64, b: u64) -> u64
     twos_common(b, rest)
 }
 
-// The greatest common divisor of short numbers.
+// The greatest common divisor of two numbers of 64 bits, of which either may be 0.
 fn short_common(a: u64, b: u64) -> u64
     ensures { result ≡ gcd a b }
 {
@@ -89,7 +89,7 @@ fn short_common(a: u64, b: u64) -> u64
     stepped_common(a, b)
 }
 
-// The greatest common divisor, where the second number is short.
+// The greatest common divisor of a number of 128 bits and one of 64 bits, which may be 0.
 fn half_common(a: u128, b: u128) -> u128
     requires { b < 2 ^ 64 }
     ensures { result ≡ gcd a b }
@@ -103,7 +103,7 @@ fn half_common(a: u128, b: u128) -> u128
     short_common(a as u64, b as u64) as u128
 }
 
-// A long number without its factors 2.
+// A number of 128 bits, above 0, without its factors 2.
 fn long_odd_part(n: u128) -> u128
     requires { 0 < n }
     ensures { IsOddPart n (trailing_zeros w128 n) result }
@@ -111,7 +111,7 @@ fn long_odd_part(n: u128) -> u128
     n >> n.trailing_zeros()
 }
 
-// The greatest common divisor of long numbers, the first of which is odd.
+// The greatest common divisor of two numbers of 128 bits, the first of which is odd.
 fn long_odd_common(a: u128, b: u128) -> u128
     requires { a % 2 ≡ 1 }
     ensures { result ≡ gcd a b }
@@ -133,7 +133,7 @@ fn long_odd_common(a: u128, b: u128) -> u128
     half_common(x, y)
 }
 
-// The greatest common divisor of long numbers.
+// The greatest common divisor of two numbers of 128 bits, neither of which is 0. It is called where neither fits 64.
 fn long_common(a: u128, b: u128) -> u128
     requires a_positive { 0 < a }
     requires b_positive { 0 < b }
@@ -143,7 +143,7 @@ fn long_common(a: u128, b: u128) -> u128
     long_odd_common(long_odd_part(a), b) << twos
 }
 
-// The greatest common divisor of short numbers, at once where one of them is 1.
+// The greatest common divisor of two numbers of 64 bits, at once where one of them is 1.
 fn any_short_common(a: u64, b: u64) -> u64
     ensures { result ≡ gcd a b }
 {
@@ -156,7 +156,7 @@ fn any_short_common(a: u64, b: u64) -> u64
     short_common(a, b)
 }
 
-// The greatest common divisor, by the sizes of the numbers.
+// The greatest common divisor of two numbers of 128 bits, in the way that suits their sizes.
 fn any_common(a: u128, b: u128) -> u128
     ensures { result ≡ gcd a b }
 {
@@ -172,7 +172,7 @@ fn any_common(a: u128, b: u128) -> u128
     long_common(a, b)
 }
 
-// The greatest common divisor of short numbers.
+// The greatest common divisor of two numbers of 64 bits; of 0 and another number it is the other one.
 #[inline(never)]
 pub(crate) fn common_of_short(a: u64, b: u64) -> u64
     ensures value { result ≡ gcd a b }

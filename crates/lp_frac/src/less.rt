@@ -16,7 +16,7 @@ pub fn plus_product(v: Frac, w: Frac, s: Frac) -> Result<Frac, Past>
     add(s, product)
 }
 
-// `s - v * w`, by the product and then the difference.
+// `s - v * w` by the product and then the difference, or the refusal of the first of them that is refused.
 fn long_less(v: Frac, w: Frac, s: Frac) -> Result<Frac, Past>
     ensures { result ≡ run.less_product (Some number_limit) v w s }
 {
@@ -24,7 +24,8 @@ fn long_less(v: Frac, w: Frac, s: Frac) -> Result<Frac, Past>
     sub(s, product)
 }
 
-// `s - v * w`, where some number on the way is past 32 bits.
+// `s - v * w` or the refusal, where `small_less` gives none: by numbers of 64 bits if they do, else by a product and a
+// difference.
 #[inline(never)]
 fn wide_less(v: Frac, w: Frac, s: Frac) -> Result<Frac, Past>
     ensures { result ≡ run.less_product (Some number_limit) v w s }
@@ -35,7 +36,8 @@ fn wide_less(v: Frac, w: Frac, s: Frac) -> Result<Frac, Past>
     }
 }
 
-// `s - v * w`, as `wide_less` gives it. The operands are copied on this way alone, since `wide_less` is not inlined.
+// `s - v * w` or the refusal, as `wide_less` gives it. The operands are copied on this way alone, since `wide_less` is
+// not inlined.
 #[inline(always)]
 fn else_wide_less(v: Frac, w: Frac, s: Frac) -> Result<Frac, Past>
     ensures { result ≡ run.less_product (Some number_limit) v w s }

@@ -18,7 +18,7 @@
 //! | `Fracs`, `Entries`, `zeros` | lists of fractions, and of a column's entries; a list of zeros | src/lists |
 //! | `Stop` | why something is not made of fractions | src/stop |
 //!
-//! Contracts above cite `largest` of specs/Narrow, and the operations of specs/Limit and specs/Run of spec_exact.
+//! Contracts cite `number_limit` of specs/Narrow and the operations of specs/Limit and specs/Run, all of spec_exact.
 #![tactic(auto)]
 
 mod divisors;

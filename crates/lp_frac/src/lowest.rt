@@ -8,7 +8,7 @@ use crate::divisors::{common, common_of_short};
 use crate::frac::Frac;
 use crate::limited::{part, part_den};
 
-// num / den = (num/g) / (den/g), g = gcd(|num|, den)
+// The fraction `num / den` in lowest terms: both are divided by their greatest common divisor.
 pub(crate) fn lowest(num: i128, den: u128) -> Frac
     requires positive { 0 < den }
     requires num_fits { unsigned_abs num ≤ number_limit }
@@ -19,7 +19,7 @@ pub(crate) fn lowest(num: i128, den: u128) -> Frac
     Frac::make(part(num, g), part_den(den, g))
 }
 
-// A short numerator without its divisor `g`.
+// The quotient of a numerator of 64 bits by its divisor `g`.
 #[inline(always)]
 fn short_part(num: i64, g: u64) -> i128
     requires positive { 0 < g }
@@ -29,7 +29,7 @@ fn short_part(num: i64, g: u64) -> i128
     (num / g as i64) as i128
 }
 
-// A short denominator without its divisor `g`.
+// The quotient of a denominator of 64 bits by its divisor `g`.
 #[inline(always)]
 fn short_part_den(den: u64, g: u64) -> u128
     requires { 0 < g }
@@ -38,7 +38,7 @@ fn short_part_den(den: u64, g: u64) -> u128
     (den / g) as u128
 }
 
-// num / 1, which is in lowest terms.
+// The whole number `num` as a fraction over 1.
 #[inline(always)]
 fn of_whole(num: i64) -> Frac
     ensures { result ≡ over num 1 }
@@ -46,7 +46,7 @@ fn of_whole(num: i64) -> Frac
     Frac::make(num as i128, 1)
 }
 
-// num / den = (num/g) / (den/g), g = gcd(|num|, den), of short numbers
+// The fraction `num / den`, of 64 bits each, in lowest terms: both are divided by their greatest common divisor.
 #[inline(always)]
 fn divided(num: i64, den: u64) -> Frac
     requires positive { 0 < den }
@@ -61,7 +61,7 @@ fn divided(num: i64, den: u64) -> Frac
     Frac::make(short_part(num, g), short_part_den(den, g))
 }
 
-// num / den of short numbers. A whole number has no divisor to be sought.
+// The fraction `num / den`, of 64 bits each, in lowest terms. For a whole number, or 0, no divisor is sought.
 #[inline(always)]
 pub(crate) fn short_lowest(num: i64, den: u64) -> Frac
     requires positive { 0 < den }

@@ -134,7 +134,7 @@ pub fn are_same(v: Frac, w: Frac) -> bool
     v == w
 }
 
-// The reciprocal. Both its parts are parts of `w`, so it is within the limit.
+// The reciprocal of a fraction other than 0. Its parts are those of `w` exchanged, so it is within the limit.
 pub(crate) fn reciprocal(w: Frac) -> Frac
     requires { w ≢ 0ℚ }
     ensures { result ≡ inverse w }

@@ -6,7 +6,7 @@ use crate::divisors::common;
 use crate::frac::{Frac, FracFault, LARGEST};
 use crate::limited::{are_opposite, signed};
 
-// The fraction `a / b` in lowest terms, or why there is none.
+// The fraction `a / b` in lowest terms. `ZeroDen` where `b` is 0, else `Wide` where a part of it is past 127 bits.
 fn fraction(a: i128, b: i128) -> Result<Frac, FracFault>
     ensures { result ≡ fraction_of a b }
 {

@@ -11,7 +11,7 @@ use crate::lowest::{lowest, scales, short_lowest};
 // The largest whole number of 64 bits and a sign.
 const LONGEST: u64 = i64::MAX as u64;
 
-// The parts, where they have 64 bits.
+// The numerator and the denominator, where the numerator fits an i64 and the denominator 63 bits; else none.
 fn short(v: Frac) -> Option<(i64, u64)>
     ensures { IfSome result (λ parts. IsShort parts.0 parts.1 v) }
 {
@@ -25,7 +25,7 @@ fn short(v: Frac) -> Option<(i64, u64)>
     }
 }
 
-// b d, where it has 63 bits
+// `b d`, the product of two denominators; none where it has more than 63 bits.
 fn short_den(b: u64, d: u64) -> Option<u64>
     ensures { IfSome result (λ k. IsDenominator k b d) }
 {
@@ -35,7 +35,8 @@ fn short_den(b: u64, d: u64) -> Option<u64>
     }
 }
 
-// n = a c and k = b d, where they have 64 bits
+// For `v = a/b` and `w = c/d` the parts `n = a c` and `k = b d` of their product, which need not be in lowest terms.
+// None where `a`, `c` or `n` does not fit an i64, or `b`, `d` or `k` has more than 63 bits.
 fn short_product(v: Frac, w: Frac) -> Option<(i64, u64)>
     ensures { IfSome result (λ parts. IsShortProduct parts.0 parts.1 v w) }
 {
@@ -54,7 +55,7 @@ fn short_product(v: Frac, w: Frac) -> Option<(i64, u64)>
     }
 }
 
-// e p, where it has 64 bits
+// `e p`; none where it does not fit an i64. `p` has at most 63 bits.
 fn scaled(e: i64, p: u64) -> Option<i64>
     requires { p ≤ 9223372036854775807 }
     ensures { IfSome result (λ x. x ≡ e *ℤ pos p) }
@@ -62,7 +63,7 @@ fn scaled(e: i64, p: u64) -> Option<i64>
     e.checked_mul(p as i64)
 }
 
-// e p - n q, where it and its terms have 64 bits
+// `e p - n q`; none where that or one of the two products does not fit an i64, or where it is -2^63.
 fn short_num(e: i64, p: u64, n: i64, q: u64) -> Option<i64>
     requires p_size { p ≤ 9223372036854775807 }
     requires q_size { q ≤ 9223372036854775807 }
@@ -86,7 +87,7 @@ fn long_scaled(e: i64, p: u64) -> i128
     e as i128 * p as i128
 }
 
-// e p - n q
+// `e p - n q`, in 128 bits.
 fn long_num(e: i64, p: u64, n: i64, q: u64) -> i128
     requires p_size { p ≤ 9223372036854775807 }
     requires q_size { q ≤ 9223372036854775807 }
@@ -106,7 +107,7 @@ fn long_den(p: u64, f: u64) -> u128
     p as u128 * f as u128
 }
 
-// e/f - n/k = (e p - n q) / (p f), where p f = q k
+// `e/f - n/k` in lowest terms, found as `(e p - n q) / (p f)`, where the factors p and q make `p f = q k`.
 fn difference_on(e: i64, f: u64, n: i64, p: u64, q: u64) -> Frac
     requires f_positive { 0 < f }
     requires f_size { f ≤ 9223372036854775807 }
@@ -133,8 +134,9 @@ fn difference(e: i64, f: u64, n: i64, k: u64) -> Frac
     difference_on(e, f, n, p, q)
 }
 
-// `s` less `v * w`, where all parts and those of the product have 64 bits.
-// e/f - (a/b) (c/d) = e/f - n/k, n = a c, k = b d
+// `s - v * w`, exact and in lowest terms; none where a part of one of the three fractions, or of the product of `v` and
+// `w` before it is reduced, does not fit 64 bits with a sign. With v = a/b, w = c/d and s = e/f it is e/f - n/k, where
+// n = a c and k = b d.
 pub(crate) fn short_less(v: Frac, w: Frac, s: Frac) -> Option<Frac>
     ensures { IfSome result (λ x. less_product (Some number_limit) v w s ≡ Ok x) }
 {

@@ -8,7 +8,7 @@ ghost use Rattle.lp_frac.specs.Less.{IsSmall, IsTerm};
 use crate::frac::Frac;
 use crate::lowest::{scales, short_lowest};
 
-// The parts, where they have 32 bits.
+// The numerator and the denominator, where they fit 32 bits, the numerator with a sign; else none.
 #[inline(always)]
 fn small(v: Frac) -> Option<(i32, u64)>
     ensures { IfSome result (λ parts. IsSmall parts.0 parts.1 v) }
@@ -23,7 +23,7 @@ fn small(v: Frac) -> Option<(i32, u64)>
     }
 }
 
-// n = a c, which has 62 bits
+// The product of the numerators `a` and `c`, of 32 bits each, in 64 bits.
 #[inline(always)]
 fn small_product(a: i32, c: i32) -> i64
     ensures value { result ≡ a *ℤ c }
@@ -42,7 +42,7 @@ fn small_product_den(b: u64, d: u64) -> u64
     b * d
 }
 
-// n q, where q is 1 or n has 30 bits
+// `n q`, where `q` is 1 or `n` is at most 2^30 in size; else none.
 #[inline(always)]
 fn small_on(n: i64, q: u64) -> Option<i64>
     requires n_size { unsigned_abs n ≤ 4611686018427387904 }
@@ -68,7 +68,7 @@ fn small_scaled(e: i32, p: u64) -> i64
     e as i64 * p as i64
 }
 
-// e p - n q
+// `x - y`, the difference of two numerators on one denominator.
 #[inline(always)]
 fn small_num(x: i64, y: i64) -> i64
     requires x_size { unsigned_abs x ≤ 4611686016279904256 }
@@ -90,7 +90,8 @@ fn small_den(p: u64, f: u64) -> u64
     p * f
 }
 
-// e/f - n/k = (e p - n q) / (p f), where p f = q k, unless a term may be past 62 bits
+// `e/f - n/k` in lowest terms, found as `(e p - n q) / (p f)`, where the factors p and q make `p f = q k`; none where
+// `e p` or `n q` may be past 2^62 in size.
 #[inline(always)]
 fn small_difference_on(e: i32, f: u64, n: i64, p: u64, q: u64) -> Option<Frac>
     requires f_positive { 0 < f }
@@ -109,7 +110,7 @@ fn small_difference_on(e: i32, f: u64, n: i64, p: u64, q: u64) -> Option<Frac>
     }
 }
 
-// e/f - n/k, unless a term may be past 62 bits
+// `e/f - n/k` in lowest terms; none where one of the two numerators may be past 2^62 in size on a common denominator.
 #[inline(always)]
 fn small_difference(e: i32, f: u64, n: i64, k: u64) -> Option<Frac>
     requires f_positive { 0 < f }
@@ -122,8 +123,8 @@ fn small_difference(e: i32, f: u64, n: i64, k: u64) -> Option<Frac>
     small_difference_on(e, f, n, p, q)
 }
 
-// `s` less `v * w`, where all parts have 32 bits and no number on the way is past 64.
-// e/f - (a/b) (c/d) = e/f - n/k, n = a c, k = b d
+// `s - v * w`, exact and in lowest terms; none where a part of one of the three fractions does not fit 32 bits, or a
+// number on the way may not fit 64. With v = a/b, w = c/d and s = e/f it is e/f - n/k, where n = a c and k = b d.
 #[inline(always)]
 pub(crate) fn small_less(v: Frac, w: Frac, s: Frac) -> Option<Frac>
     ensures { IfSome result (λ x. less_product (Some number_limit) v w s ≡ Ok x) }

@@ -7,7 +7,7 @@ use std::alloc::AllocError;
 use std::fmt::{Debug, Display};
 use thiserror::Error;
 
-/// Why something is not made: for a cause of its own, for an operation that overflows, or since memory ran out.
+/// Why something is not made: for a cause of its own, for an operation past 127 bits, or since memory ran out.
 #[derive(Clone, Copy, Debug, Error)]
 #[error_bound(C: Debug + Display)]
 pub enum Stop<C> {
@@ -23,6 +23,7 @@ pub enum Stop<C> {
 impl<C> From<Past> for Stop<C> {
     ghost from_gives = { λ p e. e ≡ stop.Past p };
 
+    // The refusal of the operation `p` as the reason why something is not made.
     fn from(p: Past) -> Self {
         Stop::Past(p)
     }
@@ -31,6 +32,7 @@ impl<C> From<Past> for Stop<C> {
 impl<C> From<AllocError> for Stop<C> {
     ghost from_gives = { λ _ e. e ≡ stop.NoMemory };
 
+    // The refusal of memory as the reason why something is not made.
     fn from(_: AllocError) -> Self {
         Stop::NoMemory
     }
