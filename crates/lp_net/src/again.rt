@@ -7,7 +7,7 @@ ghost use Rattle.lp_base.specs.Causes.{HasCause};
 use lp_base::Failed;
 use std::io::{ErrorKind, Read, Write};
 
-/// Reads into the buffer. A read that a signal interrupts is tried again.
+/// Reads into the buffer. A read that a signal interrupts is tried again, so that there are at most 2^32 - 1 tries.
 pub fn read_again<R: Read>(from: &mut R, buf: &mut [u8]) -> Result<usize, Failed>
     ensures bound { ReadsAtMost result buf.new }
     ensures bytes { ReadConsumes (R.remaining from.old) (R.remaining from.new) result buf.new }
@@ -22,7 +22,8 @@ pub fn read_again<R: Read>(from: &mut R, buf: &mut [u8]) -> Result<usize, Failed
     Err(Failed)
 }
 
-/// Writes some of the piece. A write that a signal interrupts is tried again, and one that takes nothing is a fault.
+/// Writes some of the piece. A write that a signal interrupts is tried again, so that there are at most 2^32 - 1 tries.
+/// One that takes nothing is a fault.
 pub fn write_again<W: Write>(to: &mut W, piece: &[u8]) -> Result<usize, Failed>
     ensures bound { WritesAtMost result piece.now }
     ensures some { IfOk result (λ count. 0 < count) }
@@ -38,7 +39,8 @@ pub fn write_again<W: Write>(to: &mut W, piece: &[u8]) -> Result<usize, Failed>
     Err(Failed)
 }
 
-/// Gives the result as it is, and raises the count of faults by one where it is an error.
+/// Gives the result as it is, and raises the count of faults by one where it is an error and the count is not the
+/// largest of its type.
 pub fn counted(did: Result<usize, Failed>, faults: &mut u64) -> Result<usize, Failed>
     ensures same { result ≡ did }
     ensures cause { HasCause faults.old faults.new result }

@@ -9,12 +9,13 @@ use std::io::{ErrorKind, Read};
 use std::net::{Shutdown, SocketAddr, TcpStream};
 use std::time::{Clock, Duration, Instant};
 
-// For how many seconds, by how many reads and by how many bytes each, what a client still sends is read and dropped: at
-// most 2 ^ 26 bytes.
+// For how many seconds, as a link closes, what its client still sends is read and dropped.
 const PATIENCE: u64 = 2;
 
+// How many reads of a closing link are dropped at most: 2 ^ 26 bytes with `MOST_AT_ONCE` bytes each.
 const MOST_READS: u32 = 16_384;
 
+// How many bytes of a closing link are read and dropped at once, at most.
 const MOST_AT_ONCE: usize = 4096;
 
 /// A TCP stream as a link. A call that a signal interrupts is tried again, and a write that takes nothing is a fault.
@@ -44,8 +45,9 @@ impl TcpLink {
         }
     }
 
-    /// Closes the link: the client hears at once that no more comes. What it still sends is read and dropped for a while,
-    /// since a system resets a link that is closed with bytes unread, and then a client may lose replies.
+    /// Closes the link: the client hears at once that no more comes. What it still sends is read and dropped for a
+    /// while, since a system resets a link that is closed with bytes unread, and then a client may lose replies. Where
+    /// the client can't be told, nothing is read.
     pub(crate) fn close<R: Clock>(mut self, rt: &R) {
         if self.stream.shutdown(Shutdown::Write).is_ok() {
             let _ = drop_rest(rt, &mut self.stream);
@@ -53,7 +55,8 @@ impl TcpLink {
     }
 }
 
-// Reads and drops what comes, until no more comes or the time is up.
+// Reads and drops what comes, until no more comes, a read or the clock fails, two seconds are up, or 2 ^ 14 reads were
+// made. A read that a signal interrupts is one of these, and no failure.
 fn drop_rest<R: Clock>(rt: &R, stream: &mut TcpStream) -> io::Result<()> {
     let (since, patience) = (Instant::now(rt)?, Duration::from_secs(PATIENCE));
     let mut dropped = [0; MOST_AT_ONCE];

@@ -35,8 +35,8 @@ impl<'a, R> TcpNet<'a, R> {
     }
 }
 
-// The next link of a socket, whose small pieces are sent at once. What a signal interrupts is tried again, and so is a
-// link whose peer has gone already, up to 2 ^ 32 - 1 times.
+// The next link of a socket, whose small pieces are sent at once where the system can. What a signal interrupts is
+// tried again, and so is a link whose peer has gone already, up to 2 ^ 32 - 1 times. Any other fault is an error.
 fn next_link<R: Clock>(rt: &R, socket: &TcpListener) -> Result<TcpLink, Failed> {
     for _ in 0..u32::MAX {
         match socket.accept() {

@@ -11,8 +11,8 @@ use std::time::{Clock, Duration};
 // Standard error.
 const STDERR: i32 = 2;
 
-/// Whether a line on standard error is taken at once. A pipe that takes more takes 4,096 bytes: a line of each of 16
-/// workers. What cannot be asked is taken to take it.
+/// Whether a line on standard error does not wait: it is taken at once, or fails at once. A pipe that takes more takes
+/// 4,096 bytes: a line of each of 16 workers. Where it cannot be asked, no wait is expected.
 pub(crate) fn can_say() -> bool {
     let mut asked = [pollfd {
         fd: STDERR,
@@ -60,12 +60,15 @@ impl LinkLine {
     }
 }
 
-// How long a link has lasted.
+// How long a link has lasted since it was accepted; none where the clock does not tell or did not tell then.
 fn lasted<R: Clock>(rt: &R, link: &TcpLink) -> Option<Duration> {
     link.since?.elapsed(rt).ok()
 }
 
 impl fmt::Display for LinkLine {
+    // Writes the line in fields, each a name, `=` and a value: time, worker, link, peer, word, commands, pivots, bytes
+    // in and out, seconds, and how many lines were dropped before it, if any. A time that the clock did not tell is
+    // left out.
     fn fmt<W: fmt::Write>(&self, f: &mut fmt::Formatter<W>) -> fmt::Result {
         if let Some(time) = self.time {
             write!(f, "time={time:.3} ")?;
