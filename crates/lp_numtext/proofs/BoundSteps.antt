@@ -72,7 +72,7 @@ none_kept (d ∷ ds) h = rw h refl
 
 -- ---- a decimal by the place of its first digit
 
--- S of c + 1 digits: S * 10 ^ e is at least 10 ^ 20 exactly where its first digit stands there or higher
+-- a decimal of s, a number of c + 1 digits, and the exponent e is huge exactly where c + 1 + e is above 20
 size_huge : (negative : Bool) (s c : ℕ) (e : ℤ) → 10 ^ c ≤ s → s < 10 ^ suc c →
     int_lt (pos 20) (pos (suc c) +ℤ e) ≡ is_huge (Decimal negative s e)
 unfolding is_huge

@@ -8,7 +8,7 @@ use Rattle.lp_numtext.specs.declared.parts.Quotient.{Quotient}
 use Rattle.lp_numtext.specs.declared.parts.Parts.{Parts}
 use Rattle.lp_numtext.specs.declared.parts.Parts.TheVariants as parts
 
--- the exponent as an integer
+-- an exponent that the code holds, as an integer
 abbrev pub exponent_seen : Exponent → ℤ
 exponent_seen e = signed e.is_negative (spelled e.digits.bytes.now)
 
@@ -20,7 +20,7 @@ decimal_seen d = scaled d.is_negative d.front.bytes.now d.back.bytes.now (expone
 abbrev pub quotient_seen : Quotient → NumberParts
 quotient_seen q = number.Quotient q.is_negative (spelled q.top.bytes.now) (spelled q.bottom.bytes.now)
 
--- a decimal or a quotient as the definition of the text has it
+-- the parts of a number that the code holds, as the definition of the text has them
 abbrev pub parts_seen : Parts → NumberParts
 parts_seen (parts.Decimal d) = decimal_seen d
 parts_seen (parts.Quotient q) = quotient_seen q

@@ -4,7 +4,7 @@ use Rattle.spec_mps.specs.NumberText.{is_mark, is_point, is_slash}
 use Rattle.lp_numtext.specs.declared.pieces.Separator.{Separator}
 use Rattle.lp_numtext.specs.declared.pieces.Separator.TheVariants.{Slash, Mark, Point}
 
--- the test that a byte is this separator
+-- whether a byte is this separator: a slash, the letter before an exponent, or a point
 abbrev pub separates : Separator → ℕ → Bool
 separates Slash = is_slash
 separates Mark = is_mark

@@ -24,7 +24,7 @@ fn is_infinity(word: &[u8]) -> bool
     word.eq_ignore_ascii_case(b"inf") || word.eq_ignore_ascii_case(b"infinity")
 }
 
-// The infinite bound of this sign.
+// The infinite bound of this sign: minus infinity where `is_negative`, else plus infinity.
 fn infinity(is_negative: bool) -> BoundValue<Frac>
     ensures { Ok result ≡ bound_answer (bound.infinity is_negative) }
 {
@@ -35,7 +35,8 @@ fn infinity(is_negative: bool) -> BoundValue<Frac>
     }
 }
 
-// The number of zeros before the first digit of both that is not 0.
+// How many zeros stand before the first digit that is not 0, in the digits `front` and then `back`; all digits if none
+// is.
 fn zeros_in_front(front: Digits, back: Digits) -> usize
     ensures { result ≡ prefix_len is_zero (front.entry.bytes.now ++ back.entry.bytes.now) }
 {
@@ -59,7 +60,7 @@ fn decimal_is_huge(d: Decimal) -> bool
     shifted(d.exponent, d.front.len(), zeros) > i128::from(INFINITE_POWER)
 }
 
-// Whether a quotient's size is 10^20 or more: its numerator without 20 digits is at least the denominator.
+// Whether a quotient's size is 10^20 or more: its numerator without its last 20 digits is at least the denominator.
 fn quotient_is_huge(q: Quotient) -> bool
     ensures { result ≡ is_huge (quotient_seen q.entry) }
 {
@@ -68,7 +69,7 @@ fn quotient_is_huge(q: Quotient) -> bool
         .are_at_least(q.bottom)
 }
 
-// Whether the size is 10^20 or more, whatever its width.
+// Whether the number of these parts is 10^20 or more in size, also where 127 bits do not hold it.
 fn is_huge(parts: Parts) -> bool
     ensures { result ≡ is_huge (parts_seen parts.entry) }
 {
@@ -78,7 +79,8 @@ fn is_huge(parts: Parts) -> bool
     }
 }
 
-// The finite bound of these parts, as `number` reads them.
+// The number of these parts as a finite bound, or the fault `Wide` where 127 bits do not hold its numerator or its
+// denominator as these stand before the fraction is reduced.
 #[tactic(auto, using(crate::proofs::ValueSteps::finite_answer, crate::proofs::ValueSteps::fault_answer))]
 fn finite(parts: Parts) -> Result<BoundValue<Frac>, NumFault>
     ensures { result ≡ bound_answer (bound.as_bound (number_by (Some (parts_seen parts.entry)))) }

@@ -50,7 +50,7 @@ impl<'a> Exponent<'a> {
     ghost use Rattle.spec_mps.specs.NumberText as number;
     ghost use Rattle.lp_numtext.specs.Seen.{exponent_seen};
 
-    // The exponent that follows the mark, and 0 where there is no mark.
+    // The exponent that the text behind the mark says, and 0 where there is no mark. None where it is no whole number.
     #[tactic(auto, unfolding(spec_mps::specs::NumberText::exponent_of))]
     fn parse(mark: Option<&'a [u8]>) -> Option<Exponent<'a>>
         ensures { option_map exponent_seen result ≡ number.exponent_of (option_copied mark.entry) }
@@ -123,7 +123,7 @@ impl<'a> Parts<'a> {
     ghost use Rattle.lp_numtext.specs.Huge.{sign_of};
     ghost use Rattle.lp_numtext.specs.Seen.{parts_seen};
 
-    // The parts of the text, if it is of a number's shape.
+    // The parts of the text as a decimal or a quotient; none if it has neither shape.
     #[tactic(auto, unfolding(spec_mps::specs::NumberText::parts_of, spec_mps::specs::NumberText::unsigned_parts))]
     pub(crate) fn parse(text: &'a [u8]) -> Option<Parts<'a>>
         ensures { option_map parts_seen result ≡ number.parts_of text.now }
@@ -135,7 +135,7 @@ impl<'a> Parts<'a> {
         }
     }
 
-    // Whether the text has a minus sign.
+    // Whether the number of these parts has a minus sign.
     #[tactic(auto, unfolding(spec_mps::specs::NumberText::scaled))]
     pub(crate) fn is_negative(self) -> bool
         ensures { result ≡ sign_of (parts_seen self.entry) }

@@ -25,7 +25,7 @@ fn is_separator(separator: Separator, b: u8) -> bool
     }
 }
 
-// The place of the first such separator.
+// The place of the first such separator; none if there is none.
 fn place(text: &[u8], separator: Separator) -> Option<usize>
     ensures { result ≡ position (separates separator) text.now }
 {
@@ -53,7 +53,7 @@ pub(crate) fn is_negative(text: &[u8]) -> bool
     }
 }
 
-// The text without one sign at its start.
+// The text without the sign at its start, if it has one.
 pub(crate) fn without_sign(text: &[u8]) -> &[u8]
     ensures { result.now ≡ number.without_sign text.now }
 {

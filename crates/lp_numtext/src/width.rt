@@ -4,14 +4,14 @@ ghost use Rattle.lp_numtext.specs.Within as width;
 
 use lp_frac::LARGEST;
 
-// The number, unless it is past `LARGEST`.
+// The number; none where it is past 127 bits.
 pub(crate) fn within(n: u128) -> Option<u128>
     ensures { result ≡ width.within n }
 {
     if n <= LARGEST { Some(n) } else { None }
 }
 
-// The product, unless it is past `LARGEST`.
+// The product of two numbers; none where it is past 127 bits.
 pub(crate) fn product(n: u128, k: u128) -> Option<u128>
     ensures { result ≡ width.within (n * k) }
 {

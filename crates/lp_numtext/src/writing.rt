@@ -51,7 +51,8 @@ fn write_quotient(alloc: Global, n: u128, den: u128, to: &mut Bytes) -> Result<(
     write_whole(alloc, den, to)
 }
 
-// How many places after the point a fraction with this denominator takes, or `None` where 18 are too few.
+// The least number of places after the point that write each fraction with this denominator exactly, or `None` where 18
+// are too few.
 fn places(den: u128) -> Option<u32>
     requires { 0 < den }
     ensures value { result ≡ number_written.places den }
@@ -65,7 +66,8 @@ fn places(den: u128) -> Option<u32>
     None
 }
 
-// Appends `n / den`: as a whole number, as a decimal of at most 18 places, or else as a quotient.
+// Appends `n / den`: `n` alone where `den` is 1; an exact decimal, where it has at most 18 places and its digits fit
+// 127 bits; else a quotient.
 #[tactic(auto, unfolding(spec_mps::specs::NumberWritten::size_text, spec_mps::specs::NumberWritten::placed))]
 fn write_size(alloc: Global, n: u128, den: u128, to: &mut Bytes) -> Result<(), AllocError>
     requires { 0 < den }
@@ -82,7 +84,8 @@ fn write_size(alloc: Global, n: u128, den: u128, to: &mut Bytes) -> Result<(), A
     write_quotient(alloc, n, den, to)
 }
 
-/// The text of the number, which `read` reads as that number.
+/// The text of the number: a minus where it is negative, and then a whole number, an exact decimal of at most 18
+/// places, or a quotient. `read` reads it as that number.
 #[tactic(auto, unfolding(spec_mps::specs::NumberWritten::number_text))]
 pub fn number_text(alloc: Global, v: Frac) -> Result<Bytes, AllocError>
     ensures { IfOk result (λ text. text ≡ number_written.number_text v) }
@@ -100,7 +103,7 @@ pub fn number_text(alloc: Global, v: Frac) -> Result<Bytes, AllocError>
     Ok(text)
 }
 
-/// Appends the text of the number. After an error `to` is as it was.
+/// Appends to `to` the text of the number, as `number_text` has it. After an error `to` is as it was.
 pub fn write(alloc: Global, v: Frac, to: &mut Bytes) -> Result<(), AllocError>
     ensures ok { OnOk result (to.new ≡ to.old ++ number_written.number_text v) }
     ensures err { OnErr result (to.new ≡ to.old) }
