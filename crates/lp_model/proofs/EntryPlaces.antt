@@ -10,9 +10,11 @@ use Rattle.std.proofs.lemmas.List.Sorted.{IsNonDecreasingBy-from_default}
 use Rattle.spec_exact.specs.Fraction.{ℚ, 0ℚ}
 use Rattle.lp_model.specs.Place.{IsPlace}
 
+-- entries of a column: pairs of a row's number and a coefficient
 abbrev Entries : Type 0
 Entries = List (ℕ × ℚ)
 
+-- the rows of the entries rise
 abbrev AreAscending : Entries → Type 0
 AreAscending = AllPairs (λ d e. d.0 < e.0)
 

@@ -15,7 +15,8 @@ use Rattle.spec_edit.specs.Changes.{without_entry}
 use Rattle.lp_model.specs.Place.{StandsAt, BelongsAt}
 use Rattle.lp_model.proofs.Splits.{Entries, lower, without-own, without-none}
 
--- the entries from `place` to `at` are lowered, and those from there on are not
+-- of the entries from `place` on, those before `at` have their rows lowered by one, and those from `at` on are the old
+-- ones
 pub record AreLowered (place at : ℕ) (old es : Entries) : Type 0 where
   pub done : take at es ≡ take place old ++ map lower (drop place (take at old))
   pub left : drop at es ≡ drop at old
@@ -23,6 +24,7 @@ pub record AreLowered (place at : ℕ) (old es : Entries) : Type 0 where
 
 module _ (place at : ℕ) (old es : Entries) (so_far : AreLowered place at old es) (x : ℕ × ℚ)
     (behind : place ≤ at) (within : at < length old) (read : slice_get es at ≡ Some x) where
+  -- the entry at `at` that is read is the old one there
   read_old : (d : ℕ × ℚ) → get_or old at d ≡ x
   read_old d =
       let e : get_or (drop at es) 0 d ≡ get_or es (at + 0) d = get_or-drop at es 0 d in
@@ -31,6 +33,7 @@ module _ (place at : ℕ) (old es : Entries) (so_far : AreLowered place at old e
       sym (ap (λ n. get_or old n d) g) ∙ sym f ∙ sym (ap (λ xs. get_or xs 0 d) so_far.left)
       ∙ e ∙ ap (λ n. get_or es n d) g ∙ get_or_from_slice_get es at x d read
 
+  -- the row of the entry at `at` is above 0, where those of all old entries from `place` on are
   pub row-above : All (λ e. 0 < e.0) (drop place old) → 0 < x.0
   row-above h =
       let e : get_or (drop place old) (at - place) x ≡ get_or old (place + (at - place)) x =
@@ -39,6 +42,7 @@ module _ (place at : ℕ) (old es : Entries) (so_far : AreLowered place at old e
       subst (λ (e : ℕ × ℚ). 0 < e.0) (e ∙ ap (λ n. get_or old n x) f ∙ read_old x)
       (h (at - place) x (omega (arith, length-drop place old)))
 
+  -- lowering the row of the entry at `at` too leaves the entries lowered up to the next place
   pub lowered-more : AreLowered place (at + 1) old (set es at (lower x))
   lowered-more =
       let inside : at < length es = omega (arith, so_far.long) in

@@ -21,6 +21,7 @@ use Rattle.spec_edit.proofs.ListLemmas.{map-set_unseen}
 use Rattle.spec_text.specs.Words.{same}
 use Rattle.spec_text.proofs.WordLemmas.{same_true}
 
+-- a name, by its bytes
 abbrev pub Name : Type 0
 Name = List ℕ
 
@@ -45,14 +46,17 @@ pointwise_turned a b = pointwise_is a b ∙ same_turned a b
 -- ---- a test of what has names, which asks for the name alone
 
 module _ {X : Type 0} (p : X → Bool) (q : Name → Bool) (f : X → Name) (e : (x : X) → p x ≡ q (f x)) where
+  -- the first item that passes a test of its name is at the first place of the list of names that passes it
   first_named : (xs : List X) → position_or_len p xs ≡ position_or_len q (map f xs)
   first_named [] = refl
   first_named (x ∷ xs) = ap₂ (λ t n. cond (not t) (1 + n) 0) (e x) (first_named xs)
 
+  -- the place of the first item that passes a test of its name is that of the first such name among the names
   pub place_named : (xs : List X) → position p xs ≡ position q (map f xs)
   place_named xs =
       ap₂ (λ n m. cond (ltb n m) (Some n) None) (first_named xs) (sym (length-map xs f))
 
+  -- an item passes a test of its name exactly where one of the names passes it
   pub any_named : (xs : List X) → list_any p xs ≡ list_any q (map f xs)
   any_named [] = refl
   any_named (x ∷ xs) = ap₂ ◌||◌ (e x) (any_named xs)
@@ -111,7 +115,7 @@ names_new kept given names name own e h f new =
         subst (λ ys. All (λ x. x ≢ own) ys) (sym k) (subst (λ n. All (λ x. x ≢ n) names) (sym f) new)
 
 module _ {X : Type 0} (f : X → Name) where
-  -- one more goes last
+  -- names that are kept for items, with the name of a new item at their end, are kept for the items with this one
   pub names_more : (kept given made : Option (List Name)) (xs new : List X) (x : X) (own : Name) → given ≡ kept →
       IfSome kept (λ ns. ns ≡ map f xs) → own ≡ f x → new ≡ xs ++ x ∷ [] →
       ((names : List Name) → IfSome given (λ old. old ≡ names) → IfSome made (λ ns. ns ≡ names ++ own ∷ [])) →
@@ -121,7 +125,7 @@ module _ {X : Type 0} (f : X → Name) where
       (ap (λ n. map f xs ++ n ∷ []) g ∙ sym (map-append f xs (x ∷ [])) ∙ sym (ap (map f) k))
       (makes (map f xs) (subst (λ o. IfSome o (λ ns. ns ≡ map f xs)) (sym e) h))
 
-  -- one is changed, and has its name still
+  -- names that are kept for items are kept when one item is changed that has its name still
   pub names_set : (kept : Option (List Name)) (xs : List X) (i : ℕ) (x y : X) → x ≡ get_or xs i x → i < length xs →
       f y ≡ f x → IfSome kept (λ ns. ns ≡ map f xs) → IfSome kept (λ ns. ns ≡ map f (set xs i y))
   names_set kept xs i x y here l e h =

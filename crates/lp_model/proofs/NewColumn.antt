@@ -24,11 +24,14 @@ is_free m name seen found taken s f e h = sym (e ∙ ap is_some (f ∙ ap (colum
 
 module _ (m : Model) (name : Name) (cost : ℚ) (pairs : Pairs)
     (named : is_name name ≡ true) (free : is_column_taken m name ≡ false) (few : width m < column_limit) where
+  -- where name and room are good, a new column is that of its entries, or the fault of its pairs
   opened : new_column m name cost pairs
       ≡ (entries_of m [] pairs [] >>= λ entries. Ok (with_column m (column_of name cost entries)))
   unfolding new_column
   opened = rw (named, free, lt-leb column_limit (width m) few) refl
 
+  -- where the pairs give entries, the model with the column of these entries, lower bound 0 and no upper bound is the
+  -- edit's answer
   pub pushed : (entries : List (ℕ × ℚ)) (lower : ℚ) (next : Model) → entries_of m [] pairs [] ≡ Ok entries →
       lower ≡ 0ℚ
       → next ≡ with_column m (record {
@@ -49,6 +52,7 @@ module _ (m : Model) (name : Name) (cost : ℚ) (pairs : Pairs)
         entries = entries;
       })) zero))
 
+  -- where the pairs give a fault, or memory runs out, the edit ends so and leaves the model
   pub stopped : (error : EditError) → GivesEdited (entries_of m [] pairs []) (Err error) →
       Leaves (new_column m name cost pairs) true m m (Err error)
   stopped (Fault fault) h =

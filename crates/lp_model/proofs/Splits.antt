@@ -12,10 +12,11 @@ use Rattle.spec_exact.proofs.Same.{eq_test, eq_if}
 use Rattle.spec_edit.specs.Changes.{entry_if, with_entry, renumbered, without_entry}
 use Rattle.lp_model.specs.Place.{IsSplit, StandsAt, BelongsAt}
 
+-- entries of a column: pairs of a row's number and a coefficient
 abbrev pub Entries : Type 0
 Entries = List (ℕ × ℚ)
 
--- one row up
+-- an entry with its row's number less one
 abbrev pub lower : ℕ × ℚ → ℕ × ℚ
 lower e = (e.0 - 1, e.1)
 
@@ -45,6 +46,7 @@ three : {X : Type 0} (p : X → Bool) (xs ys zs us vs ws : List X) → filter p 
 three p xs ys zs us vs ws e f g = filter-append p xs (ys ++ zs) ∙ ap₂ ◌++◌ e (filter-append p ys zs ∙ ap₂ ◌++◌ f g)
 
 module _ (i : ℕ) (front own back : Entries) (own_row : All (λ e. e.0 ≡ i) own) (split : IsSplit i front back) where
+  -- of entries before, at and behind row i, those of earlier rows are the ones before
   below : filter (λ e. ltb e.0 i) (front ++ (own ++ back)) ≡ front
   below =
       three (λ e. ltb e.0 i) front own back front [] []
@@ -56,6 +58,7 @@ module _ (i : ℕ) (front own back : Entries) (own_row : All (λ e. e.0 ≡ i) o
       (All-weaker (λ e. i < e.0) (λ e. ltb e.0 i ≡ false) (λ e l. le-ltb e.0 i (omega arith)) back split.behind))
       ∙ append-nil front
 
+  -- of entries before, at and behind row i, those of later rows are the ones behind
   above : filter (λ e. ltb i e.0) (front ++ (own ++ back)) ≡ back
   above =
       three (λ e. ltb i e.0) front own back [] [] back
@@ -66,6 +69,7 @@ module _ (i : ℕ) (front own back : Entries) (own_row : All (λ e. e.0 ≡ i) o
       (filter-all (λ e. ltb i e.0) back
       (All-weaker (λ e. i < e.0) (λ e. ltb i e.0 ≡ true) (λ e l. lt-ltb i e.0 l) back split.behind))
 
+  -- of entries before, at and behind row i, those of other rows are the ones before and behind
   others : filter (λ e. not (eqb e.0 i)) (front ++ (own ++ back)) ≡ front ++ back
   others =
       three (λ e. not (eqb e.0 i)) front own back front [] back
@@ -76,10 +80,12 @@ module _ (i : ℕ) (front own back : Entries) (own_row : All (λ e. e.0 ≡ i) o
       (filter-all (λ e. not (eqb e.0 i)) back (All-weaker (λ e. i < e.0) (λ e. not (eqb e.0 i) ≡ true)
       (λ e l. ap not (ne_eqb e.0 i (λ q. omega arith))) back split.behind))
 
+  -- setting the entry of row i to v leaves the entries before and behind it, with one of v between if v is not 0
   with_entry-parts : (v : ℚ) → with_entry i v (front ++ (own ++ back)) ≡ front ++ (entry_if i v ++ back)
   unfolding with_entry
   with_entry-parts v = ap₂ (λ xs ys. (xs ++ entry_if i v) ++ ys) below above ∙ append_assoc front (entry_if i v) back
 
+  -- taking row i out leaves the entries before it, and those behind it with their rows less one
   without_entry-parts : without_entry i (front ++ (own ++ back)) ≡ front ++ map lower back
   unfolding without_entry
   without_entry-parts =
@@ -116,43 +122,53 @@ set-parts : {X : Type 0} (xs : List X) (k : ℕ) (x : X) → k < length xs → s
 set-parts xs k x l = sym (take-append-drop k (set xs k x)) ∙ ap₂ ◌++◌ (take-set xs k x) (drop-set xs k x l)
 
 module _ (i k : ℕ) (es : Entries) (stands : StandsAt i k es) where
+  -- the entries before place k, the one there and those behind it are together all entries
   around : take k es ++ ((get_or es k (i, 0ℚ) ∷ []) ++ drop (k + 1) es) ≡ es
   around = parts_around es k (i, 0ℚ) stands.inside
 
+  -- the entry at place k, where that of row i stands, is of row i
   own : All (λ e. e.0 ≡ i) (get_or es k (i, 0ℚ) ∷ [])
   own = All-cons (λ e. e.0 ≡ i) (get_or es k (i, 0ℚ)) [] (stands.here (i, 0ℚ)) (All-nil (λ e. e.0 ≡ i))
 
+  -- where the entry of row i stands at k, setting it to v leaves the others, with one of v between if v is not 0
   put : (v : ℚ) → with_entry i v es ≡ take k es ++ (entry_if i v ++ drop (k + 1) es)
   put v =
       ap (with_entry i v) (sym around)
       ∙ with_entry-parts i (take k es) (get_or es k (i, 0ℚ) ∷ []) (drop (k + 1) es) own stands.split v
 
+  -- removing the entry of row i is setting it to 0
   pub remove-put : (v : ℚ) → v ≡ 0ℚ → remove es k ≡ with_entry i v es
   remove-put v e = sym (put v ∙ ap (λ xs. take k es ++ (xs ++ drop (k + 1) es)) (put-zero i v e) ∙ rw add-one refl)
 
+  -- setting the entry at the place of row i to v, which is not 0, is setting row i to v
   pub set-put : (v : ℚ) → v ≢ 0ℚ → set es k (i, v) ≡ with_entry i v es
   set-put v n =
       set-parts es k (i, v) stands.inside
       ∙ sym (put v ∙ ap (λ xs. take k es ++ (xs ++ drop (k + 1) es)) (put-other i v n))
 
+  -- taking row i out removes its entry at k and lowers the rows behind it by one
   pub without-own : without_entry i es ≡ take k es ++ map lower (drop (k + 1) es)
   without-own =
       ap (without_entry i) (sym around)
       ∙ without_entry-parts i (take k es) (get_or es k (i, 0ℚ) ∷ []) (drop (k + 1) es) own stands.split
 
 module _ (i k : ℕ) (es : Entries) (belongs : BelongsAt i k es) where
+  -- where row i has no entry and belongs at k, setting it to v puts one of v there, if v is not 0
   put_between : (v : ℚ) → with_entry i v es ≡ take k es ++ (entry_if i v ++ drop k es)
   put_between v =
       ap (with_entry i v) (sym (take-append-drop k es))
       ∙ with_entry-parts i (take k es) [] (drop k es) (All-nil (λ e. e.0 ≡ i)) belongs.split v
 
+  -- where row i has no entry, setting it to 0 leaves the entries
   pub same-put : (v : ℚ) → v ≡ 0ℚ → es ≡ with_entry i v es
   same-put v e =
       sym (put_between v ∙ ap (λ xs. take k es ++ (xs ++ drop k es)) (put-zero i v e) ∙ take-append-drop k es)
 
+  -- where row i has no entry and belongs at k, inserting v there, which is not 0, is setting row i to v
   pub insert-put : (v : ℚ) → v ≢ 0ℚ → insert es k (i, v) ≡ with_entry i v es
   insert-put v n = sym (put_between v ∙ ap (λ xs. take k es ++ (xs ++ drop k es)) (put-other i v n))
 
+  -- where row i has no entry, taking it out lowers the rows from its place on by one
   pub without-none : without_entry i es ≡ take k es ++ map lower (drop k es)
   without-none =
       ap (without_entry i) (sym (take-append-drop k es))

@@ -25,6 +25,7 @@ use Rattle.lp_model.specs.declared.edit.EditError.TheVariants.{Fault, NoMemory}
 use Rattle.lp_model.specs.Answer.{Applies}
 
 module _ (limits : SizeLimits) (m : Model) (k : IsWithin limits m) where
+  -- a model within limits of size is within them without row i
   without_row-within : (i : ℕ) → i < height m → IsWithin limits (without_row m i)
   without_row-within i l =
       record {
@@ -32,18 +33,22 @@ module _ (limits : SizeLimits) (m : Model) (k : IsWithin limits m) where
         few_columns = omega (arith, length-map m.columns (lowered i), k.few_columns);
       }
 
+  -- a model within limits of size is within them without column j
   without_column-within : (j : ℕ) → j < width m → IsWithin limits (without_column m j)
   without_column-within j l =
       record { few_rows = k.few_rows; few_columns = omega (arith, length-remove m.columns j l, k.few_columns) }
 
+  -- a model within limits of size is within them with another row i
   row_set-within : (i : ℕ) (r : ExactRow) → IsWithin limits (record m { rows = set m.rows i r })
   row_set-within i r =
       record { few_rows = omega (arith, length-set m.rows i r, k.few_rows); few_columns = k.few_columns }
 
+  -- a model within limits of size is within them with another column j
   column_set-within : (j : ℕ) (c : ExactColumn) → IsWithin limits (record m { columns = set m.columns j c })
   column_set-within j c =
       record { few_rows = k.few_rows; few_columns = omega (arith, length-set m.columns j c, k.few_columns) }
 
+  -- a model within limits of size is within them with another offset
   with_offset-within : (v : ℚ) → IsWithin limits (with_offset m v)
   with_offset-within v = record { few_rows = k.few_rows; few_columns = k.few_columns }
 

@@ -3,18 +3,18 @@ use Rattle.std.specs.Prelude.{ℕ, ◌≡◌, ◌<◌, ◌≤◌, ◌+◌, List,
 use Rattle.std.specs.List.{HoldsAt}
 use Rattle.spec_exact.specs.Fraction.{ℚ}
 
--- all entries in front are of rows before the row, and all in back of rows after it
+-- all entries of `front` are of rows before this one, and all of `back` of rows behind it
 pub record IsSplit (row : ℕ) (front back : List (ℕ × ℚ)) : Type 0 where
   pub before : All (λ e. e.0 < row) front
   pub behind : All (λ e. row < e.0) back
 
--- the row's entry stands at k
+-- the entry of this row stands at place k, between those of rows before it and those of rows behind it
 pub record StandsAt (row k : ℕ) (entries : List (ℕ × ℚ)) : Type 0 where
   pub inside : k < length entries
   pub here : HoldsAt (λ e. e.0 ≡ row) entries k
   pub split : IsSplit row (take k entries) (drop (k + 1) entries)
 
--- the row has no entry, and it would stand at k
+-- this row has no entry, and one would stand at place k, between those of rows before it and those of rows behind it
 pub record BelongsAt (row k : ℕ) (entries : List (ℕ × ℚ)) : Type 0 where
   pub inside : k ≤ length entries
   pub split : IsSplit row (take k entries) (drop k entries)

@@ -17,7 +17,7 @@ use spec_model::Sense;
 use std::alloc::AllocError;
 
 impl Model {
-    /// Adds a row at the end.
+    /// Adds a row, whose name is new, at the end. Without memory the model stays as it was.
     pub fn push_row(&mut self, row: Row) -> Result<(), AllocError>
         requires few { height self.old < large_limits.rows }
         requires name { IsTrue (is_row_name row.name) }
@@ -32,7 +32,7 @@ impl Model {
         Ok(())
     }
 
-    /// Adds a column at the end.
+    /// Adds a column, whose name is new, at the end. Without memory the model stays as it was.
     pub fn push_col(&mut self, column: Column) -> Result<(), AllocError>
         requires few { width self.old < large_limits.columns }
         requires kept { IsKeptColumn (height self.old) column }
@@ -47,7 +47,8 @@ impl Model {
         Ok(())
     }
 
-    /// Lets column `j` have the coefficient `v` in row `i`.
+    /// Makes `v` the coefficient of column `j` in row `i`. 0 takes the entry out. Without memory the model stays as it
+    /// was.
     pub fn set_entry(&mut self, i: u32, j: u32, v: Frac) -> Result<(), AllocError>
         requires i_in_range { i < height self.old }
         requires j_in_range { j < width self.old }
@@ -58,7 +59,7 @@ impl Model {
         put_entry(&mut column.entries, i, v)
     }
 
-    /// Takes row `i` out. The rows after it move down by one.
+    /// Takes row `i` out, with its coefficients in all columns. The numbers of the rows after it fall by one.
     pub fn remove_row(&mut self, i: u32)
         requires { i < height self.old }
         ensures { self.new ≡ changes.without_row self.old i }
@@ -68,7 +69,7 @@ impl Model {
         take_row_out_of(&mut self.columns, i);
     }
 
-    /// Takes column `j` out. The columns after it move down by one.
+    /// Takes column `j` out. The numbers of the columns after it fall by one.
     pub fn remove_col(&mut self, j: u32)
         requires { j < width self.old }
         ensures { self.new ≡ changes.without_column self.old j }
@@ -85,7 +86,7 @@ impl Model {
         self.columns[j as usize].cost = narrow(v);
     }
 
-    /// Gives column `j` these bounds.
+    /// Gives column `j` these bounds, each of which may be absent.
     pub fn set_bounds(&mut self, j: u32, lower: Option<Frac>, upper: Option<Frac>)
         requires j_in_range { j < width self.old }
         requires lower { IsBound lower }
@@ -105,7 +106,7 @@ impl Model {
         self.rows[i as usize].rhs = narrow(v);
     }
 
-    /// Gives row `i` this range, or takes it away. A free row has none.
+    /// Gives row `i` this range, or takes its range away if none is given. A free row has none.
     pub fn set_range(&mut self, i: u32, range: Option<Frac>)
         requires inside { i < height self.old }
         requires range { FitsKind (row self.old i).kind range }
@@ -114,14 +115,14 @@ impl Model {
         self.rows[i as usize].range = narrow_if(range);
     }
 
-    /// Lets the objective have the value `v` at the point 0.
+    /// Makes `v` the value of the objective at the point 0.
     pub fn set_offset(&mut self, v: Frac)
         ensures { self.new ≡ changes.with_offset self.old v }
     {
         self.offset = narrow(v);
     }
 
-    /// Says whether the objective is to be made least or greatest.
+    /// Sets whether the objective is to be made least or greatest.
     pub fn set_sense(&mut self, sense: Sense)
         ensures { self.new ≡ changes.with_sense self.old sense }
     {
@@ -129,7 +130,8 @@ impl Model {
     }
 }
 
-// Takes row `i` out of the entries of each column. The rows after it move down by one.
+// Takes the entry of row `i`, if there is one, out of each column. The numbers of all later rows fall by one in the
+// entries.
 fn take_row_out_of(columns: &mut [Column], i: u32)
     requires { All (λ c. AllPairs (λ d e. d.0 < e.0) c.entries) columns.old }
     ensures { columns.new ≡

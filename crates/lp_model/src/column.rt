@@ -20,8 +20,8 @@ fn is_given(name: &[u8], pairs: &[(Name, Frac)]) -> bool
     pairs.iter().any(|p| are_same(p.0.as_slice(), name))
 }
 
-/// The entries of the pairs of a new column, in the order of their rows. A name that no row has, or that is given
-/// twice, is taken out of the pairs and is the fault.
+/// The entries of a new column by its pairs, in the order of their rows; a pair with 0 gives none. A name that no row
+/// has, or that an earlier pair has too, is taken out of the pairs and is the fault. Memory may run out.
 pub(crate) fn entries_of(
     alloc: Global,
     model: &Model,

@@ -27,6 +27,7 @@ pub enum EditError {
 impl From<EditFault> for EditError {
     ghost from_gives = { λ fault e. e ≡ Fault fault };
 
+    // The error that an edit is refused for this fault.
     fn from(fault: EditFault) -> Self {
         EditError::Fault(fault)
     }
@@ -35,6 +36,7 @@ impl From<EditFault> for EditError {
 impl From<AllocError> for EditError {
     ghost from_gives = { λ _ e. e ≡ NoMemory };
 
+    // The error that there is no memory for an edit.
     fn from(_: AllocError) -> Self {
         EditError::NoMemory
     }
@@ -54,6 +56,7 @@ impl Model for Pairs {
 }
 
 impl Drop for Pairs {
+    // Drops the pairs with their names, and gives their memory back.
     fn drop(self) {
         let Pairs { items } = self;
         drop(items);
@@ -70,7 +73,7 @@ impl Pairs {
         }
     }
 
-    /// Adds a pair at the end.
+    /// Adds a pair at the end. Without memory the list stays as it was.
     pub fn push(&mut self, row: Name, value: Frac) -> Result<(), AllocError>
         ensures ok { OnOk result (self.new ≡ self.old ++ (row, value) ∷ []) }
         ensures err { OnErr result (self.new ≡ self.old) }
@@ -100,7 +103,7 @@ impl Pairs {
         &self.items
     }
 
-    /// Takes out the name of the pair at `place`, counted from 0. The last pair moves to its place.
+    /// Takes the pair at `place`, counted from 0, out and gives its name. The last pair moves to its place.
     pub(crate) fn take_name(&mut self, place: usize) -> Name
         requires { place < length self.old }
         ensures { IfSome (slice_get self.old place) (λ p. result ≡ p.0) }

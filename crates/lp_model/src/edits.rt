@@ -18,11 +18,13 @@ use spec_edit::Which;
 use spec_model::Kind;
 use std::alloc::Global;
 
+/// The most rows that a usual model may have.
 const MAX_ROWS: u32 = 256;
 
+/// The most columns that a usual model may have.
 const MAX_COLUMNS: u32 = 512;
 
-// The place of the row with this name, or the fault that no row has it.
+// The number of the row with this name; a fault if no row has it.
 fn row_named(model: &Model, name: Name) -> Result<u32, EditFault>
     ensures value { result ≡ edited.row_named model.now name }
     ensures inside { IfOk result (λ i. i < height model.now) }
@@ -33,7 +35,7 @@ fn row_named(model: &Model, name: Name) -> Result<u32, EditFault>
     }
 }
 
-// The place of the column with this name, or the fault that no column has it.
+// The number of the column with this name; a fault if no column has it.
 fn column_named(model: &Model, name: Name) -> Result<u32, EditFault>
     ensures value { result ≡ edited.column_named model.now name }
     ensures inside { IfOk result (λ j. j < width model.now) }
@@ -58,7 +60,8 @@ fn is_ranged_free(kind: Kind, range: &Option<Frac>) -> bool
     range.is_some() && is_free(kind)
 }
 
-// Adds a row at the end, if its name is good and new, there is room for it, and it is no free row with a range.
+// Adds a row at the end. A bad name, one that is taken, one row too many, or a range of a free row is a fault. A fault
+// or a lack of memory leaves the model as it was.
 #[tactic(auto, unfolding(spec_edit::specs::Edited::new_row))]
 fn add_row(model: &mut Model, row: Row) -> Result<(), EditError>
     ensures { Leaves (edited.new_row model.old row) true model.old model.new result }
@@ -79,7 +82,7 @@ fn add_row(model: &mut Model, row: Row) -> Result<(), EditError>
     Ok(())
 }
 
-// Takes the row with this name out, with its coefficients.
+// Takes the row with this name out, with its coefficients. A name that no row has is a fault.
 fn delete_row(model: &mut Model, name: Name) -> Result<(), EditError>
     ensures { Leaves (at_row model.old name (changes.without_row model.old)) false model.old model.new result }
 {
@@ -88,8 +91,8 @@ fn delete_row(model: &mut Model, name: Name) -> Result<(), EditError>
     Ok(())
 }
 
-// Adds a column at the end with lower bound 0 and no upper bound, if its name is good and new, there is room for it,
-// and its pairs name rows of the model, each once. The pairs are used up.
+// Adds a column at the end with lower bound 0 and no upper bound. A fault: a bad name, one that is taken, one column
+// too many, or a pair whose name no row has, or an earlier pair has too. A fault or a lack of memory leaves the model.
 #[tactic(auto, unfolding(spec_edit::specs::Edited::new_column))]
 fn add_column(
     alloc: Global,
@@ -120,7 +123,7 @@ fn add_column(
     Ok(())
 }
 
-// Takes the column with this name out.
+// Takes the column with this name out. A name that no column has is a fault.
 fn delete_column(model: &mut Model, name: Name) -> Result<(), EditError>
     ensures { Leaves (at_column model.old name (changes.without_column model.old)) false model.old model.new result }
 {
@@ -129,7 +132,7 @@ fn delete_column(model: &mut Model, name: Name) -> Result<(), EditError>
     Ok(())
 }
 
-// Gives the column with this name this cost.
+// Gives the column with this name this cost. A name that no column has is a fault.
 fn set_cost(model: &mut Model, name: Name, value: Frac) -> Result<(), EditError>
     ensures { Leaves (at_column model.old name (λ j. changes.with_cost model.old j value))
         false model.old model.new result }
@@ -139,7 +142,8 @@ fn set_cost(model: &mut Model, name: Name, value: Frac) -> Result<(), EditError>
     Ok(())
 }
 
-// Gives the column `column` this coefficient in row `row`; 0 takes the entry out.
+// Gives the column `column` this coefficient in row `row`; 0 takes the entry out. A name that no row or no column has
+// is a fault. A fault or a lack of memory leaves the model as it was.
 fn set_coefficient(model: &mut Model, row: Name, column: Name, value: Frac) -> Result<(), EditError>
     ensures { Leaves (at_entry model.old row column (λ i j. changes.with_coefficient model.old i j value))
         true model.old model.new result }
@@ -150,7 +154,8 @@ fn set_coefficient(model: &mut Model, row: Name, column: Name, value: Frac) -> R
     Ok(())
 }
 
-// Gives the row with this name this right side. The objective's right side is the negative of its offset.
+// Gives the row with this name this right side. For the objective's name the offset becomes the negative of it. A name
+// that is neither the objective's nor a row's is a fault.
 #[tactic(auto, unfolding(spec_edit::specs::Edited::with_right_side))]
 fn set_right_side(model: &mut Model, name: Name, value: Frac) -> Result<(), EditError>
     ensures { Leaves (edited.with_right_side model.old name value) false model.old model.new result }
@@ -164,7 +169,8 @@ fn set_right_side(model: &mut Model, name: Name, value: Frac) -> Result<(), Edit
     Ok(())
 }
 
-// Gives the row with this name this range, or takes its range away. A free row may have none.
+// Gives the row with this name this range, or takes its range away. A name that no row has is a fault, and so is a
+// range for a free row.
 #[tactic(auto, unfolding(spec_edit::specs::Edited::with_new_range))]
 fn set_range(model: &mut Model, name: Name, range: Option<Frac>) -> Result<(), EditError>
     ensures { Leaves (edited.with_new_range model.old name range) false model.old model.new result }
@@ -179,7 +185,7 @@ fn set_range(model: &mut Model, name: Name, range: Option<Frac>) -> Result<(), E
     Ok(())
 }
 
-// Gives the column with this name these bounds.
+// Gives the column with this name these bounds, each of which may be absent. A name that no column has is a fault.
 fn set_bounds(model: &mut Model, name: Name, bounds: ColumnBounds) -> Result<(), EditError>
     ensures { Leaves (at_column model.old name (λ j. changes.with_bounds model.old j bounds))
         false model.old model.new result }
@@ -189,7 +195,7 @@ fn set_bounds(model: &mut Model, name: Name, bounds: ColumnBounds) -> Result<(),
     Ok(())
 }
 
-// Applies an edit to a model. One that is refused leaves the model as it was.
+// Applies an edit to a model. One that is refused, or for which there is no memory, leaves the model as it was.
 #[tactic(auto, unfolding(spec_edit::specs::Edited::edited))]
 fn change(alloc: Global, model: &mut Model, edit: Edit) -> Result<(), EditError>
     ensures { Applies model.old edit model.new result }

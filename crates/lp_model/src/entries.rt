@@ -8,7 +8,8 @@ ghost use Rattle.lp_model.specs.Place.{IsPlace};
 use lp_frac::{Entries, Frac, is_zero, narrow};
 use std::alloc::AllocError;
 
-/// Gives row `row` the coefficient `value`. 0 takes the row's entry out.
+/// Gives row `row` the coefficient `value` in a column's entries, which stay in the order of their rows. 0 takes the
+/// row's entry out. Without memory the entries stay as they were.
 pub(crate) fn put_entry(entries: &mut Entries, row: u32, value: Frac) -> Result<(), AllocError>
     requires { AllPairs (λ d e. d.0 < e.0) entries.old }
     ensures ok { OnOk result (entries.new ≡ with_entry row value entries.old) }
@@ -36,7 +37,7 @@ pub(crate) fn put_entry(entries: &mut Entries, row: u32, value: Frac) -> Result<
     }
 }
 
-/// Takes the entry of row `row` out. The rows after it move down by one.
+/// Takes the entry of row `row`, if there is one, out of a column's entries. The numbers of all later rows fall by one.
 pub(crate) fn take_row_out(entries: &mut Entries, row: u32)
     requires { AllPairs (λ d e. d.0 < e.0) entries.old }
     ensures { entries.new ≡ without_entry row entries.old }
@@ -50,7 +51,7 @@ pub(crate) fn take_row_out(entries: &mut Entries, row: u32)
     }
 }
 
-/// The place of the row's entry, or else, as `Err`, the place where it belongs.
+/// The place of the row's entry among a column's entries, or else, as `Err`, the place where it belongs.
 pub(crate) fn place_of(entries: &[(u32, Frac)], row: u32) -> Result<usize, usize>
     requires { AllPairs (λ d e. d.0 < e.0) entries.now }
     ensures { IsPlace row entries.now result }
@@ -58,7 +59,7 @@ pub(crate) fn place_of(entries: &[(u32, Frac)], row: u32) -> Result<usize, usize
     entries.binary_search_by_key(&row, |e| e.0)
 }
 
-// Lowers the rows of the entries by one, from place `place` on.
+// Lowers the row numbers of the entries from place `place` on by one.
 fn lower_rows(entries: &mut Entries, place: usize)
     requires inside { place ≤ length entries.old }
     requires above { All (λ e. 0 < e.0) (drop place entries.old) }

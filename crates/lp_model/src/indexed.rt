@@ -46,7 +46,8 @@ pub(crate) fn with_name(names: Option<NameIndex>, name: &[u8]) -> Option<NameInd
     }
 }
 
-/// The place of the row with this name, by the kept names where there are some, else by a walk over the rows.
+/// The place of the row with this name, counted from 0; none if no row has it. It is found by the kept names where
+/// there are some, else by a walk over the rows.
 pub(crate) fn row_named(names: &Option<NameIndex>, rows: &[Row], name: &[u8]) -> Option<usize>
     requires { IfSome names.now (λ names. names ≡ map (λ (r : ExactRow). r.name) rows.now) }
     ensures value { result ≡ position (λ r. same r.name name.now) rows.now }
@@ -58,7 +59,8 @@ pub(crate) fn row_named(names: &Option<NameIndex>, rows: &[Row], name: &[u8]) ->
     }
 }
 
-/// The place of the column with this name, by the kept names where there are some, else by a walk over the columns.
+/// The place of the column with this name, counted from 0; none if no column has it. It is found by the kept names
+/// where there are some, else by a walk over the columns.
 pub(crate) fn column_named(
     names: &Option<NameIndex>,
     columns: &[Column],

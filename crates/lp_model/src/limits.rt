@@ -17,7 +17,8 @@ pub fn is_free(kind: Kind) -> bool
     matches!(kind, Kind::N)
 }
 
-/// The least that the row's sum may be.
+/// The lower limit of the row's sum, as the operation that gives it. It is the right side for `G` and `E`, with a range
+/// below 0 added for `E`. For `L` with a range it is the right side less the range's absolute value. Else it is absent.
 pub fn lower_of(row: &Row) -> RowLimit
     ensures { result ≡ model.lower_of row.now }
 {
@@ -29,7 +30,9 @@ pub fn lower_of(row: &Row) -> RowLimit
     }
 }
 
-/// The most that the row's sum may be.
+/// The upper limit of the row's sum, as the operation that gives it. It is the right side for `L` and `E`, with a range
+/// that is not below 0 added for `E`. For `G` with a range it is the right side plus the range's absolute value. Else
+/// it is absent.
 pub fn upper_of(row: &Row) -> RowLimit
     ensures { result ≡ model.upper_of row.now }
 {
@@ -41,7 +44,8 @@ pub fn upper_of(row: &Row) -> RowLimit
     }
 }
 
-// The number that the operation gives at 127 bits, none where the limit is absent.
+// The number that a limit comes to; none where it is absent. Refused where a step of its sum or difference is past 127
+// bits.
 fn taken(limit: RowLimit) -> Result<Option<Frac>, Past>
     ensures { result ≡ model.limit_run (Some number_limit) limit }
 {
@@ -53,14 +57,14 @@ fn taken(limit: RowLimit) -> Result<Option<Frac>, Past>
     }
 }
 
-/// The least that the row's sum may be, at 127 bits.
+/// The least that the row's sum may be; none where there is no limit. Refused where a step to it is past 127 bits.
 pub fn lower_limit(row: &Row) -> Result<Option<Frac>, Past>
     ensures { result ≡ model.lower_run (Some number_limit) row.now }
 {
     taken(lower_of(row))
 }
 
-/// The most that the row's sum may be, at 127 bits.
+/// The most that the row's sum may be; none where there is no limit. Refused where a step to it is past 127 bits.
 pub fn upper_limit(row: &Row) -> Result<Option<Frac>, Past>
     ensures { result ≡ model.upper_run (Some number_limit) row.now }
 {

@@ -17,7 +17,8 @@ pub type Row = spec_model::Row<Name, Frac>;
 /// A column: a variable with its cost, its bounds and its coefficients.
 pub type Column = spec_model::Column<Name, Frac, Entries>;
 
-/// A linear program. It has at most 65,536 rows and 131,072 columns, with distinct names.
+/// A linear program. It has at most 65,536 rows and 131,072 columns. No two columns have one name, nor do two of the
+/// rows and the objective.
 pub struct Model {
     pub(crate) name: Name,
     pub(crate) sense: Sense,
@@ -57,6 +58,7 @@ impl std::marker::Model for Model {
 }
 
 impl Drop for Model {
+    // Drops the rows, the columns and all names, and gives their memory back.
     fn drop(self) {
         let Model {
             name,
@@ -78,7 +80,8 @@ impl Drop for Model {
 }
 
 impl Model {
-    /// A model of these parts.
+    /// A model of these parts, which may be kept: the rows and columns in this order, and the names by which they are
+    /// found.
     pub fn new(
         name: Name,
         sense: Sense,
@@ -187,7 +190,7 @@ impl Model {
         self.columns[j as usize].entries.as_slice()
     }
 
-    /// The coefficient of column `j` in row `i`.
+    /// The coefficient of column `j` in row `i`, 0 where there is no entry.
     pub fn entry(&self, i: u32, j: u32) -> Frac
         requires i_in_range { i < height self.now }
         requires j_in_range { j < width self.now }
@@ -196,7 +199,7 @@ impl Model {
         entry_at(self.entries(j), i)
     }
 
-    /// The number of the row with this name.
+    /// The number of the row with this name, counted from 0; none if no row has it.
     #[tactic(auto, unfolding(spec_model::specs::Kept::row_place))]
     pub fn row_of(&self, name: &[u8]) -> Option<u32>
         ensures value { result ≡ row_place self.now name.now }
@@ -208,7 +211,7 @@ impl Model {
         }
     }
 
-    /// The number of the column with this name.
+    /// The number of the column with this name, counted from 0; none if no column has it.
     #[tactic(auto, unfolding(spec_model::specs::Kept::column_place))]
     pub fn col_of(&self, name: &[u8]) -> Option<u32>
         ensures value { result ≡ column_place self.now name.now }
@@ -221,7 +224,7 @@ impl Model {
     }
 }
 
-// The coefficient in row `i`, which is 0 where the row has no entry.
+// The coefficient that a column's entries give row `i`; 0 where the row has no entry.
 fn entry_at(entries: &[(u32, Frac)], i: u32) -> Frac
     requires { AllPairs (λ d e. d.0 < e.0) entries.now }
     ensures { result ≡ entry_of entries.now i }

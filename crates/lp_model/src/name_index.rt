@@ -7,7 +7,7 @@ use indexmap::IndexSet;
 use std::alloc::{AllocError, Global};
 use std::marker::Model;
 
-/// Distinct names in their order. The time to find one does not grow with how many there are.
+/// Distinct names in their order, found by their hashes: the time to find one hardly grows with how many there are.
 pub struct NameIndex {
     names: IndexSet<Vec<u8>>,
 }
@@ -21,6 +21,7 @@ impl Model for NameIndex {
 }
 
 impl Drop for NameIndex {
+    // Drops the names, and gives their memory back.
     fn drop(self) {
         let NameIndex { names } = self;
         drop(names);
@@ -44,7 +45,7 @@ impl NameIndex {
         self.names.len()
     }
 
-    /// Adds a name at the end.
+    /// Adds a name that the list does not have yet at the end. Without memory the list stays as it was.
     pub fn push(&mut self, name: &[u8]) -> Result<(), AllocError>
         requires { All (λ x. x ≢ name.now) self.old }
         ensures ok { OnOk result (self.new ≡ self.old ++ name.now ∷ []) }

@@ -5,6 +5,7 @@ ghost use Rattle.spec_model.specs.Kept as kept;
 
 use lp_base::are_same;
 
+/// The most bytes that a name may have.
 const MAX_NAME: usize = 64;
 
 // Whether the byte is a printable character of ASCII other than the space.
@@ -21,7 +22,7 @@ fn are_printable(text: &[u8]) -> bool
     text.iter().all(|b| is_printable(*b))
 }
 
-/// Whether this may be the name of a column.
+/// Whether this may be the name of a column: 1 to 64 printable ASCII characters without spaces.
 #[tactic(auto, unfolding(spec_model::specs::Kept::is_name))]
 pub fn is_name(name: &[u8]) -> bool
     ensures { result ≡ kept.is_name name.now }
@@ -29,7 +30,8 @@ pub fn is_name(name: &[u8]) -> bool
     !name.is_empty() && name.len() <= MAX_NAME && are_printable(name)
 }
 
-/// Whether this may be the name of a row or of the objective.
+/// Whether this may be the name of a row or of the objective: 1 to 64 printable ASCII characters without spaces, and
+/// not `'MARKER'`.
 #[tactic(auto, unfolding(spec_model::specs::Kept::is_row_name))]
 pub fn is_row_name(name: &[u8]) -> bool
     ensures { result ≡ kept.is_row_name name.now }
@@ -37,7 +39,7 @@ pub fn is_row_name(name: &[u8]) -> bool
     is_name(name) && !are_same(name, b"'MARKER'")
 }
 
-/// Whether this may be the name of a model.
+/// Whether this may be the name of a model: at most 64 printable ASCII characters without spaces. It may be empty.
 #[tactic(auto, unfolding(spec_model::specs::Kept::is_model_name))]
 pub fn is_model_name(name: &[u8]) -> bool
     ensures { result ≡ kept.is_model_name name.now }

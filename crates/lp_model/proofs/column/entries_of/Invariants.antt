@@ -5,7 +5,8 @@ use Rattle.spec_model.specs.Kept.{AreEntries}
 use Rattle.spec_edit.specs.Edited as edited
 use Rattle.lp_model.proofs.column.entries_of.Given as goal
 
--- the pairs that were passed over are in the entries
+-- The entries so far, with the pairs from `place` on put to them, are what all pairs give. They are in order, of rows
+-- of the model, not 0 and of at most 127 bits, and the pairs are still the old ones.
 abbrev pub invariant-loop-place : goal.invariant-loop-place
 invariant-loop-place l =
     record {
