@@ -7,12 +7,12 @@
 -- `wide_first`: the first too wide field of some cards is that of these with more cards behind.
 -- `nothing`: writing no cards leaves the text as it is.
 -- `joined`: cards written after other cards are the two lists' cards written in turn.
--- `behind`: where some cards were written and a later field is too wide, the stop names the first too wide field of
---   all.
+-- `behind`: where some cards were written, a stop that names the first too wide field of later ones names that of all.
 -- `first`: a stop that names the first too wide field of some cards names that of these with more cards behind.
 -- `goes_on`: what writing later cards answers, after some were written, is what writing all of them answers.
 -- `section_none`: where a section is not wanted, nothing of it is written.
--- `section_some`: where a section is wanted, its heading and its cards are written in turn.
+-- `section_some`: where a section is wanted and its heading was written, what writing its cards answers is what writing
+--   the section answers.
 -- `each_done`: where the cards of the first n items are written and there are no more, those of all items are.
 -- `all_cards_of`: the cards of a model are those up to COLUMNS and those after them.
 -- `fixed_given`: the text of all cards in fixed form, or the first too wide field, is what writing fixed form gives.
@@ -122,19 +122,25 @@ section_some {style} {a} {b} {card = card} cards c result same is h k =
 
 module _ {X : Type 0} (style : Style) (f : X → WrittenCards)
     (xs : List X) (i : ℕ) (d : X) (inside : i < length xs) where
+  -- the cards of the first i + 1 items are those of the first i and then those of item i
   next_cards : flat_map f (take (i + 1) xs) ≡ flat_map f (take i xs) ++ f (get_or xs i d)
   next_cards =
       ap (flat_map f) (take_more xs i d inside) ∙ flat_map-append f (take i xs) (get_or xs i d ∷ [])
       ∙ ap (λ t. flat_map f (take i xs) ++ t) (append-nil (f (get_or xs i d)))
 
+  -- where the cards of the first i items are written, and then those of item i, the cards of the first i + 1 are
+  -- written
   pub each_next : (a b c : List ℕ) → IsAdded style (flat_map f (take i xs)) a b →
       IsAdded style (f (get_or xs i d)) b c → IsAdded style (flat_map f (take (i + 1) xs)) a c
   each_next a b c h k = rw next_cards (joined style (flat_map f (take i xs)) (f (get_or xs i d)) a b c h k)
 
+  -- the cards of all items are those of the first i + 1 and then those of the others
   all_cards : flat_map f xs ≡ flat_map f (take (i + 1) xs) ++ flat_map f (drop (i + 1) xs)
   all_cards =
       ap (flat_map f) (sym (take-append-drop (i + 1) xs)) ∙ flat_map-append f (take (i + 1) xs) (drop (i + 1) xs)
 
+  -- where the cards of the first i items are written, and a field of item i's cards is too wide, it is the first too
+  -- wide one of all
   pub each_stops : (a b : List ℕ) (stop : WriteStop) → IsAdded style (flat_map f (take i xs)) a b →
       Names (wide_in style (f (get_or xs i d))) stop → Names (wide_in style (flat_map f xs)) stop
   each_stops a b stop h k =

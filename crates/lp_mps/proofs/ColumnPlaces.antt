@@ -27,6 +27,7 @@ any_named p q f e [] = refl
 any_named p q f e (x ∷ xs) = ap₂ ◌||◌ (e x) (any_named p q f e xs)
 
 module _ (columns : ColumnsRead) (names : List Name) (kept : AreColumns columns names) (name : Name) where
+  -- a name is among the names just where some column has it, a whole one or the current one
   pub has_named : list_any (same name) names
       ≡ list_any (λ (c : ExactColumn). same c.name name) (columns_with columns.whole columns.current)
   has_named =
@@ -50,15 +51,18 @@ module _ (columns : ColumnsRead) (names : List Name) (kept : AreColumns columns 
 -- ---- a place in a list with one more at its end
 
 module _ {X : Type 0} (p : X → Bool) where
+  -- where the search for an item that passes p stops at k, inside the list, k is the place of the first one
   found : (xs : List X) (k : ℕ) → position_or_len p xs ≡ k → k < length xs → position p xs ≡ Some k
   found xs k e l =
       ap (λ n. cond (ltb n (length xs)) (Some n) None) e ∙ ap (λ t. cond t (Some k) None) (lt-ltb k (length xs) l)
 
+  -- where the search for an item that passes p stops at the end of the list, there is none
   missing : (xs : List X) (k : ℕ) → position_or_len p xs ≡ k → length xs ≤ k → position p xs ≡ None
   missing xs k e l =
       ap (λ n. cond (ltb n (length xs)) (Some n) None) e ∙ ap (λ t. cond t (Some k) None) (le-ltb k (length xs) l)
 
-  -- it is the same, or that of the last one
+  -- after y is pushed, the first place of an item that passes p is what it was, or it is the last place, and there was
+  -- none before
   pushed : (xs : List X) (y : X) → (position p (xs ++ y ∷ []) ≡ position p xs)
       ⊎ ((position p (xs ++ y ∷ []) ≡ Some (length xs)) × (position p xs ≡ None))
   pushed xs y = by (eqb (position_or_len p xs) (length xs)) refl (p y) refl
@@ -101,11 +105,14 @@ module _ (columns : ColumnsRead) (names : List Name) (kept : AreColumns columns 
   abbrev test : ExactColumn → Bool
   test c = same c.name name
 
+  -- a name's place among the names is the place of the column with this name, the current column standing last
   all_placed : position (λ x. same x name) names ≡ position test (columns_with columns.whole columns.current)
   all_placed =
       ap (position (λ x. same x name)) kept.named
       ∙ sym (place_named test (λ x. same x name) name_of (λ c. refl) (columns_with columns.whole columns.current))
 
+  -- where a name's place among the names is below the count of whole columns, it is the place of the whole column with
+  -- this name
   pub place_inside : (k : ℕ) → Some k ≡ position (λ x. same x name) names → k < length columns.whole →
       Some k ≡ position test columns.whole
   place_inside k e l = by columns.current (e ∙ all_placed)
@@ -121,6 +128,7 @@ module _ (columns : ColumnsRead) (names : List Name) (kept : AreColumns columns 
           absurd (let g : k ≡ length columns.whole = ap place_in (f ∙ b.0) in omega (arith, g, l)))
           (pushed test columns.whole c)
 
+  -- where a name's place among the names is not below the count of whole columns, no whole column has this name
   pub place_outside : (k : ℕ) → Some k ≡ position (λ x. same x name) names → length columns.whole ≤ k →
       None ≡ position test columns.whole
   place_outside k e l = by columns.current (e ∙ all_placed)
@@ -140,6 +148,7 @@ module _ (columns : ColumnsRead) (names : List Name) (kept : AreColumns columns 
           × (position test columns.whole ≡ None)). sym b.1)
           (pushed test columns.whole c)
 
+  -- where a name has no place among the names, no whole column has it
   pub place_nowhere : None ≡ position (λ x. same x name) names → None ≡ position test columns.whole
   place_nowhere e = by columns.current (e ∙ all_placed)
     where

@@ -186,7 +186,7 @@ filter_all x placed (e ∷ es) h =
 own : (x : Entry) (es : Entries) → filter (tie x) (x ∷ es) ≡ x ∷ filter (tie x) es
 own x es = rw (tie_same x x refl) refl
 
--- where some entry of a list has the row of x, the first is of no later row
+-- where all entries of a list are of row n or later, and one of them has the row of x, this row is n or later
 first_low : (x : Entry) (n : ℕ) (es : Entries) → IsAbove n es → (y : Entry) (ys : Entries) →
     filter (tie x) es ≡ y ∷ ys → n ≤ x.0
 first_low x n es h y ys e = go (ltb x.0 n) refl

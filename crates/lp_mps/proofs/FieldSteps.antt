@@ -51,9 +51,12 @@ seen f = record { number = f.0; text = f.1.now }
 
 module _ (style : Style) (fs : List (ℕ × Bor (List ℕ))) (i : ℕ)
     (d : ℕ × Bor (List ℕ)) (inside : i < length fs) where
+  -- the first i + 1 fields are the first i and then field i
   fields_next : fields_of (take (i + 1) fs) ≡ fields_of (take i fs) ++ seen (get_or fs i d) ∷ []
   fields_next = ap (map seen) (take_more fs i d inside) ∙ map-append seen (take i fs) (get_or fs i d ∷ [])
 
+  -- where the first i fields are in the line, and field i is not too wide, padding the line and adding field i puts the
+  -- first i + 1 in
   pub puts_next : (start line next : List ℕ) → wide_field style (fields_of (take i fs)) ≡ None →
       line ≡ with_fields style start (fields_of (take i fs))
       → is_wide_in style (seen (get_or fs i d)) ≡ false →
@@ -68,9 +71,11 @@ module _ (style : Style) (fs : List (ℕ × Bor (List ℕ))) (i : ℕ)
         ∙ ap (with_fields style start) (sym fields_next),
   )
 
+  -- all fields are the first i + 1 and then the others
   fields_all : fields_of fs ≡ fields_of (take (i + 1) fs) ++ fields_of (drop (i + 1) fs)
   fields_all = ap (map seen) (sym (take-append-drop (i + 1) fs)) ∙ map-append seen (take (i + 1) fs) (drop (i + 1) fs)
 
+  -- where none of the first i fields is too wide, and field i is, it is the wide field of all
   pub puts_stops : wide_field style (fields_of (take i fs)) ≡ None → is_wide_in style (seen (get_or fs i d)) ≡ true →
       wide_field style (fields_of fs) ≡ Some (get_or fs i d).1.now
   puts_stops narrow wide =

@@ -18,10 +18,12 @@ count v = length (columns_with v.whole v.current)
 
 module _ (limits : SizeLimits) (s : State) (name : Name) (closed : ColumnsRead)
     (whole : closed ≡ record { whole = whole_columns s; current = None }) (other : is_open s.column name ≡ false) where
+  -- where a column has the name already, opening one with it fails with `ColumnTaken`
   pub opened_taken : taken name closed ≡ true → opened limits s name ≡ Err code.ColumnTaken
   unfolding opened
   opened_taken e = rw (other, sym (ap (taken name) whole) ∙ e) refl
 
+  -- where no column has the name and there are as many columns as the limit, opening one fails with `Limit`
   pub opened_full : (n : ℕ) → taken name closed ≡ false → n ≡ count closed → limits.columns ≤ n →
       opened limits s name ≡ Err code.Limit
   unfolding opened
@@ -29,6 +31,7 @@ module _ (limits : SizeLimits) (s : State) (name : Name) (closed : ColumnsRead)
       let many : limits.columns ≤ length (whole_columns s) = subst (λ k. limits.columns ≤ k) (h ∙ ap count whole) l in
       rw (other, sym (ap (taken name) whole) ∙ e, le-ltb (length (whole_columns s)) limits.columns many) refl
 
+  -- where no column has the name and there are fewer columns than the limit, opening one makes it the current column
   pub opened_new : (n : ℕ) (new : State) → taken name closed ≡ false → n ≡ count closed → n < limits.columns →
       new ≡ record s {
         columns = closed.whole;

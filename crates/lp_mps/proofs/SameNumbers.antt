@@ -1,8 +1,8 @@
 -- One definition of the numbers that cards give rows agrees with those of the sections.
 --
--- `entries_are`: reading pairs as entries is what the definition of COLUMNS does with them.
--- `rhs_card_is`: reading a card as right sides is what the definition of RHS does with it.
--- `ranges_card_is`: reading a card as ranges is what the definition of RANGES does with it.
+-- `entries_are`: `pairs_by`, for entries, reads pairs as `column_pairs` does, the definition of COLUMNS.
+-- `rhs_card_is`: `set_card`, for right sides, reads a card as `rhs_card` does, the definition of RHS.
+-- `ranges_card_is`: `set_card`, for ranges, reads a card as `ranges_card` does, the definition of RANGES.
 use Rattle.std.proofs.Common.{◌≡◌, ℕ, Bool, true, false, Some, None, Ok, Err, List, [], ◌∷◌, get_or, cond, refl, ap, ◌∙◌}
 use Rattle.spec_model.specs.Model.{Name, no_row, is_free}
 use Rattle.spec_mps.specs.declared.fault.Code.TheVariants as code
@@ -26,7 +26,7 @@ next (Err code) b f g e h = ap (λ c. c >>= g) e
 
 -- ---- one by one
 
--- a pair of an entry is checked the same by both definitions
+-- `pair_by`, for entries, checks the pair of a row's name and a number's text as `column_pair` does
 entry_is : (s : State) (name : Name) (text : List ℕ) → pair_by Entries s name text ≡ column_pair s name text
 unfolding column_pair enter
 entry_is s name text = next (need (place_of s name) code.UnknownRow) _ _ _ refl by
@@ -34,7 +34,7 @@ entry_is s name text = next (need (place_of s name) code.UnknownRow) _ _ _ refl 
     by : (t : Target) → place_by Entries s text t ≡ (number_in text >>= λ v. enter s t v)
     by t = refl
 
--- a pair of a right side is checked the same by both definitions
+-- `pair_by`, for right sides, checks a pair as `side_pair` does
 side_is : (s : State) (name : Name) (text : List ℕ) → pair_by Sides s name text ≡ side_pair s name text
 unfolding side_pair put_side
 side_is s name text = next (need (place_of s name) code.UnknownRow) _ _ _ refl by
@@ -43,7 +43,7 @@ side_is s name text = next (need (place_of s name) code.UnknownRow) _ _ _ refl b
     by Objective = refl
     by (Row i) = refl
 
--- a pair of a range is checked the same by both definitions
+-- `pair_by`, for ranges, checks a pair as `range_pair` does
 range_is : (s : State) (name : Name) (text : List ℕ) → pair_by Ranges s name text ≡ range_pair s name text
 unfolding range_pair put_range new_range
 range_is s name text = next (need (place_of s name) code.UnknownRow) _ _ _ refl by
@@ -64,25 +64,25 @@ pub entries_are : (s : State) (ps : List (List ℕ × List ℕ)) → pairs_by En
 entries_are s [] = refl
 entries_are s (p ∷ ps) = next _ _ _ _ (entry_is s p.0 p.1) (λ t. entries_are t ps)
 
--- pairs of right sides in turn are checked the same by both definitions
+-- `pairs_by`, for right sides, reads pairs as `side_pairs` does
 sides_are : (s : State) (ps : List (List ℕ × List ℕ)) → pairs_by Sides s ps ≡ side_pairs s ps
 sides_are s [] = refl
 sides_are s (p ∷ ps) = next _ _ _ _ (side_is s p.0 p.1) (λ t. sides_are t ps)
 
--- pairs of ranges in turn are checked the same by both definitions
+-- `pairs_by`, for ranges, reads pairs as `range_pairs` does
 ranges_are : (s : State) (ps : List (List ℕ × List ℕ)) → pairs_by Ranges s ps ≡ range_pairs s ps
 ranges_are s [] = refl
 ranges_are s (p ∷ ps) = next _ _ _ _ (range_is s p.0 p.1) (λ t. ranges_are t ps)
 
 -- ---- on cards
 
--- a card of right sides, with its set and pairs, is checked the same by both definitions
+-- `set_by`, for right sides, reads a card of a set and pairs as `rhs_by` does
 side_set : (s : State) (card : SetAndPairs) → set_by Sides s card ≡ rhs_by s card
 unfolding rhs_by
 side_set s card =
     ap (λ c. cond (is_used s.set card.set) c (Ok s)) (sides_are (record s { set = Some card.set }) card.pairs)
 
--- a card of ranges, with its set and pairs, is checked the same by both definitions
+-- `set_by`, for ranges, reads a card of a set and pairs as `ranges_by` does
 range_set : (s : State) (card : SetAndPairs) → set_by Ranges s card ≡ ranges_by s card
 unfolding ranges_by
 range_set s card =

@@ -70,7 +70,7 @@ few_pairs [] h = refl
 few_pairs (f ∷ []) h = refl
 few_pairs (f ∷ g ∷ fs) h = absurd (omega arith)
 
--- the texts of a bound by their first four places are those by the list
+-- `texts_by`, of the first four texts of a list, gives the texts of a bound that `bound_texts_by` gives of the list
 texts_places : (b : Bool) (ts : List (List ℕ)) →
     texts_by b (slice_get ts 0) (slice_get ts 1) (slice_get ts 2) (slice_get ts 3) ≡ bound_texts_by b ts
 texts_places true [] = refl

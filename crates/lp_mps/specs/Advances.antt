@@ -6,7 +6,8 @@ use Rattle.spec_mps.specs.Steps.{Outcome, More, Done}
 use Rattle.lp_mps.specs.declared.read.fault.Fault.{Fault}
 use Rattle.lp_mps.specs.Answer.{Fails}
 
--- the line leads to this state, or ends the text, or fails
+-- The code's answer to a line fits its outcome: no model, where it leads to this state; the model, where it ends the
+-- text; or the fault. Of an answer for lack of memory nothing is asked.
 abbrev pub Advances : Outcome → State → Result (Option Model) Fault → Type 0
 Advances outcome state (Ok None) = outcome ≡ Ok (More state)
 Advances outcome state (Ok (Some m)) = outcome ≡ Ok (Done m)

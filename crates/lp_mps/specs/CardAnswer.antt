@@ -6,7 +6,8 @@ use Rattle.spec_mps.specs.Fields as field
 use Rattle.lp_mps.specs.declared.card.fault.CardFault.{CardFault}
 use Rattle.lp_mps.specs.declared.card.fault.CardFault.TheVariants.{Misplaced, NoMemory}
 
--- the card, or the column that is wrong; if memory runs out it says nothing
+-- the code's answer fits the reading of a line: its card, or the column of the misplaced byte; of an answer for lack of
+-- memory nothing is asked
 abbrev pub GivesCard : Result (Card Fields) CardFault → CardReading → Type 0
 GivesCard (Ok card) reading = reading ≡ Is card
 GivesCard (Err (Misplaced column)) reading = reading ≡ field.Misplaced column

@@ -5,12 +5,12 @@ use Rattle.spec_mps.specs.Reader.{State}
 use Rattle.lp_mps.specs.declared.read.draft.Draft.{Draft}
 use Rattle.lp_mps.specs.Sets.{set_of}
 
--- a text may have no name
+-- the name of a model that the code holds, as the definition has it: empty where there is none
 abbrev pub name_of : Option Name → Name
 name_of None = []
 name_of (Some name) = name
 
--- the definition's state: the current column stands beside the whole ones
+-- the code's draft of a model as the definition's state of a reader
 abbrev pub state_of : Draft → State
 state_of d =
     record {

@@ -11,7 +11,7 @@ use Rattle.lp_base.specs.declared.feed.Feed.{Feed}
 use Rattle.lp_base.specs.declared.feed.Feed.TheVariants as feed
 use Rattle.lp_mps.specs.TextRead.{TextRead}
 
--- the text continues after line n
+-- line n leads to a further state, with which the reader `new` of a text of this form goes on; it has read n lines
 pub record GoesOn (outcome : Outcome) (form : Style) (n : ℕ) (new : TextRead) : Type 0 where
   pub state : outcome ≡ Ok (steps.More new.state)
   pub style : new.style ≡ form
@@ -22,14 +22,15 @@ pub record IsRefused (outcome : Outcome) (n : ℕ) (fault : MpsFault) : Type 0 w
   pub line : fault.line ≡ n
   pub code : outcome ≡ Err fault.code
 
--- the answer at line n of what its step leads to; if memory runs out it says nothing
+-- The code's answer to line n fits the outcome of the line: more is wanted, and the reader is `new`; or the model; or
+-- the fault in line n. Of an answer for lack of memory nothing is asked.
 abbrev pub Feeds : Outcome → Style → ℕ → TextRead → Feed Model MpsFault → Type 0
 Feeds outcome style n new feed.More = GoesOn outcome style n new
 Feeds outcome style n new (feed.Done m) = outcome ≡ Ok (steps.Done m)
 Feeds outcome style n new (feed.Refused fault) = IsRefused outcome n fault
 Feeds outcome style n new feed.NoMemory = Unit {0}
 
--- the model of a text that has ended is within these limits
+-- if the answer is a model, this is within these limits; of other answers nothing is asked
 abbrev pub IsDoneWithin : SizeLimits → Feed Model MpsFault → Type 0
 IsDoneWithin limits (feed.Done m) = IsWithin limits m
 IsDoneWithin limits answer = Unit {0}

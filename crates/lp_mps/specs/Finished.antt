@@ -6,12 +6,12 @@ use Rattle.spec_mps.specs.Steps.{Outcome, More, Done}
 use Rattle.lp_mps.specs.declared.read.fault.Fault.{Fault}
 use Rattle.lp_mps.specs.Answer.{Fails}
 
--- the text ends with this model, or fails
+-- the code's result fits the outcome of a line: the model with which the text ends, or the fault
 abbrev pub Ends : Outcome → Result Model Fault → Type 0
 Ends outcome (Ok m) = outcome ≡ Ok (Done m)
 Ends outcome (Err fault) = Fails outcome fault
 
--- where the text has ended with a model, the model may be kept; else nothing is asked
+-- if a line ends the text with a model, that is a valid one within the large limits; of other outcomes nothing is asked
 abbrev pub IsKept : Outcome → Type 0
 IsKept (Ok (Done m)) = IsModel m
 IsKept (Ok (More s)) = Unit {0}

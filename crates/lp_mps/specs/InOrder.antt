@@ -4,7 +4,7 @@ use Rattle.spec_exact.specs.Fraction.{ℚ}
 use Rattle.spec_model.specs.Model.{ExactColumn}
 use Rattle.spec_mps.specs.Reader.{put_entry}
 
--- entries that are inserted one by one, each at its row's place, into a list in order
+-- the list `placed`, which is in the order of rows, with these entries inserted one by one, each at its row's place
 abbrev pub put_all : List (ℕ × ℚ) → List (ℕ × ℚ) → List (ℕ × ℚ)
 put_all placed [] = placed
 put_all placed (e ∷ es) = put_all (put_entry e.0 e.1 placed) es

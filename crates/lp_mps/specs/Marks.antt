@@ -3,7 +3,7 @@ use Rattle.std.specs.Prelude.{ℕ, Option, Some, None}
 use Rattle.spec_mps.specs.declared.target.Target.{Target}
 use Rattle.spec_mps.specs.declared.target.Target.TheVariants.{Objective, Row}
 
--- the number of a row; the objective has none
+-- the mark by which the code holds a target: the number of a row, and none for the objective
 abbrev pub mark_of : Target → Option ℕ
 mark_of Objective = None
 mark_of (Row i) = Some i

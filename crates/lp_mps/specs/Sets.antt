@@ -9,11 +9,12 @@ use Rattle.lp_mps.specs.declared.read.sets.FirstSet.{FirstSet}
 use Rattle.lp_mps.specs.declared.read.sets.FirstSet.TheVariants as first
 use Rattle.lp_mps.specs.declared.read.sets.SetAndPairs.{SetAndPairs}
 
--- the definition's set and pairs
+-- the set and the pairs that the code holds of a card, as the definition has them
 abbrev pub card_seen : SetAndPairs → sides.SetAndPairs
 card_seen card = record { set = option_copied card.set; pairs = pairs_of (texts_of card.pairs.now) }
 
--- the definition's set of a section's first card
+-- the set of a section's first card, as the code holds it, as the definition has it: no card yet, a card without a set,
+-- or a named one
 abbrev pub set_of : FirstSet → Option (Option Name)
 set_of first.Unseen = None
 set_of first.Unnamed = Some None

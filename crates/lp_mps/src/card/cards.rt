@@ -8,7 +8,7 @@ use crate::card::words::word_fields;
 use crate::card::{Card, CardFault};
 use std::alloc::Global;
 
-/// The card of a line in free form.
+/// The card of a line in free form: skipped, or the words of a section's heading, or those of a data card.
 #[tactic(auto, unfolding(spec_mps::specs::Fields::free_fields))]
 pub fn free(alloc: Global, line: &[u8]) -> Result<Card, CardFault>
     ensures { GivesCard result (field.free_fields line.now) }
@@ -24,7 +24,8 @@ pub fn free(alloc: Global, line: &[u8]) -> Result<Card, CardFault>
     }
 }
 
-/// The card of a line in fixed form.
+/// The card of a line in fixed form. A data card has its fields by columns, and is a fault where a byte is misplaced.
+/// Any other line is read as in free form.
 #[tactic(auto, unfolding(spec_mps::specs::Fields::free_fields, spec_mps::specs::Fields::fixed_fields))]
 pub fn fixed(alloc: Global, line: &[u8]) -> Result<Card, CardFault>
     ensures { GivesCard result (field.fixed_fields line.now) }

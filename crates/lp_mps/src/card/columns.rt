@@ -5,10 +5,11 @@ ghost use Rattle.spec_mps.specs.Fields as field;
 use crate::card::Fields;
 use std::alloc::{AllocError, Global};
 
-/// The column after the last field, from which on nothing is read.
+/// The column after the last field. Only a space may stand in it, and past it nothing is read.
 const LAST_COLUMN: u32 = 62;
 
-// Whether the column is outside all fields of a card in fixed form, so that only a space may stand there.
+// Whether the column is one of 1 to 62 and outside all fields of a card in fixed form, so that only a space may stand
+// there.
 fn is_beside(column: u32) -> bool
     ensures { result ≡ field.is_beside column }
 {
@@ -18,14 +19,16 @@ fn is_beside(column: u32) -> bool
     )
 }
 
-// Whether the byte may not stand in this column of a data card in fixed form.
+// Whether the byte may not stand in this column of a data card in fixed form: a tab in any, and another byte than a
+// space outside all fields. Past column 62 each byte may stand.
 fn is_misplaced(column: u32, byte: u8) -> bool
     ensures { result ≡ field.is_misplaced column byte }
 {
     column <= LAST_COLUMN && (byte == b'\t' || (is_beside(column) && byte != b' '))
 }
 
-/// The first column, from 1 on, with a byte that may not stand there in fixed form.
+/// The first column of the line, counted from 1, with a byte that may not stand there in fixed form; none if each may.
+/// Past column 62 nothing is tested.
 pub(crate) fn misplaced(line: &[u8]) -> Option<u32>
     ensures { result ≡ field.misplaced_from 1 line.now }
 {
@@ -97,7 +100,8 @@ fn in_columns(line: &[u8], first: usize, last: usize) -> &[u8]
     without_end(without_front(behind(first_bytes(line, last), first - 1)))
 }
 
-// Adds the fields of a card in fixed form to an empty list of fields.
+// Adds the fields of a card in fixed form, with their numbers 1 to 6, to an empty list of fields. A field without
+// another byte than spaces is left out.
 #[tactic(auto, unfolding(spec_mps::specs::Fields::column_fields))]
 fn push_columns(alloc: Global, line: &[u8], fields: &mut Fields) -> Result<(), AllocError>
     requires { fields.old ≡ [] }
@@ -111,7 +115,8 @@ fn push_columns(alloc: Global, line: &[u8], fields: &mut Fields) -> Result<(), A
     fields.push(alloc, 6, in_columns(line, 50, 61))
 }
 
-/// The fields of a card in fixed form, by their columns. None of its bytes is misplaced.
+/// The fields of a card in fixed form, by their columns, with their numbers 1 to 6. A field without another byte than
+/// spaces is left out.
 pub(crate) fn column_fields(alloc: Global, line: &[u8]) -> Result<Fields, AllocError>
     ensures { IfOk result (λ fields. fields ≡ field.column_fields line.now) }
 {

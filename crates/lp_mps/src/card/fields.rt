@@ -90,7 +90,7 @@ impl Fields {
         self.items.as_slice()
     }
 
-    /// The bytes of the field with this number, none where the card does not have it.
+    /// The bytes of the field with this number; empty where the card does not have it.
     pub fn text_at(&self, number: u32) -> &[u8]
         ensures { result.now ≡ card_field.text_at number self.now }
     {

@@ -7,7 +7,7 @@ ghost use Rattle.spec_mps.specs.Cards as cards;
 
 use lp_base::is_blank;
 
-/// Whether the line is a comment, or has only blanks.
+/// Whether the line is a comment, or has only blanks. A carriage return at its end does not count.
 #[tactic(auto, unfolding(spec_mps::specs::Cards::is_skipped))]
 pub(crate) fn is_skipped(line: &[u8]) -> bool
     ensures { result ≡ cards.is_skipped line.now }
@@ -15,14 +15,14 @@ pub(crate) fn is_skipped(line: &[u8]) -> bool
     begins_with_star(line) || has_only_blanks(without_carriage_return(line))
 }
 
-// Whether the line is a comment.
+// Whether the line begins with `*`: it is a comment.
 fn begins_with_star(line: &[u8]) -> bool
     ensures { result ≡ cards.begins_with_star line.now }
 {
     line.first() == Some(&b'*')
 }
 
-/// Whether the line is a data card. Lines that are skipped may say so too.
+/// Whether the line begins with a blank, or is empty: then it is a data card, unless it is skipped.
 pub(crate) fn begins_with_blank(line: &[u8]) -> bool
     ensures { result ≡ cards.begins_with_blank line.now }
 {

@@ -18,7 +18,7 @@ pub(crate) enum BoundCard {
     SetsBoth(Option<Frac>, Option<Frac>),
 }
 
-// The number or infinity that the text is.
+// The number, or plus or minus infinity, that the text of a bound says; or the code of its fault.
 #[tactic(auto, unfolding(spec_mps::specs::Bounds::bound_in))]
 fn bound_in(text: &[u8]) -> Result<BoundValue<Frac>, Code>
     ensures { result ≡ bounds.bound_in text.now }
@@ -26,7 +26,8 @@ fn bound_in(text: &[u8]) -> Result<BoundValue<Frac>, Code>
     Ok(read_bound(text)?)
 }
 
-// What a card of kind `UP` with this value does. The value is not minus infinity.
+// What a card of kind `UP` with this value does: it sets the upper bound, or takes it away for plus infinity. Minus
+// infinity is a fault.
 fn upper_card(value: BoundValue<Frac>) -> Result<BoundCard, Code>
     ensures { bound_made result ≡ bounds.upper_card value }
 {
@@ -37,7 +38,8 @@ fn upper_card(value: BoundValue<Frac>) -> Result<BoundCard, Code>
     }
 }
 
-// What a card of kind `LO` with this value does. The value is not plus infinity.
+// What a card of kind `LO` with this value does: it sets the lower bound, or takes it away for minus infinity. Plus
+// infinity is a fault.
 fn lower_card(value: BoundValue<Frac>) -> Result<BoundCard, Code>
     ensures { bound_made result ≡ bounds.lower_card value }
 {
@@ -48,7 +50,7 @@ fn lower_card(value: BoundValue<Frac>) -> Result<BoundCard, Code>
     }
 }
 
-// What a card of kind `FX` with this value does. The value is finite.
+// What a card of kind `FX` with this value does: it sets both bounds to the value. An infinity is a fault.
 fn both_card(value: BoundValue<Frac>) -> Result<BoundCard, Code>
     ensures { bound_made result ≡ bounds.both_card value }
 {
@@ -58,7 +60,8 @@ fn both_card(value: BoundValue<Frac>) -> Result<BoundCard, Code>
     }
 }
 
-/// What a card of this kind does. `text` is its value, which the kinds `FR`, `MI` and `PL` do not read.
+/// What a card of this kind does to its column's bounds. `text` is its value, which the kinds `FR`, `MI` and `PL` do
+/// not read. A value that the kind does not take is a fault.
 #[tactic(auto, unfolding(spec_mps::specs::Bounds::bound_card))]
 pub(crate) fn bound_card(kind: BoundKind, text: &[u8]) -> Result<BoundCard, Code>
     ensures { bound_made result ≡ bounds.bound_card kind text.now }
@@ -83,7 +86,8 @@ fn is_below_zero(bound: &Option<Frac>) -> bool
     }
 }
 
-// Sets the bounds that the card gives. An upper bound below 0 also removes the lower one, unless a card has set it.
+// Sets the column's bounds that the card gives. A card for the upper bound alone that sets it below 0 also removes the
+// lower one, unless `lowered` says that a card has set that before.
 fn bound_column(column: &mut Column, lowered: bool, card: &BoundCard)
     ensures { column.new ≡ bounds.bounded lowered (bound_seen card.now) column.old }
 {
@@ -102,7 +106,8 @@ fn bound_column(column: &mut Column, lowered: bool, card: &BoundCard)
     }
 }
 
-/// Sets the bounds of the column at a place, as the card gives them. A place past the end changes nothing.
+/// Sets the bounds of the column at a place, as the card gives them; `lowered` says whether an earlier card has set its
+/// lower bound. A place past the end changes nothing.
 pub(crate) fn bound_at(columns: &mut [Column], place: usize, lowered: bool, card: &BoundCard)
     ensures { columns.new ≡ changed_at place (bounds.bounded lowered (bound_seen card.now)) columns.old }
 {
@@ -111,7 +116,7 @@ pub(crate) fn bound_at(columns: &mut [Column], place: usize, lowered: bool, card
     }
 }
 
-/// Whether a card sets the lower bound.
+/// Whether a card itself sets the lower bound, or takes it away. A card for the upper bound alone does not.
 pub(crate) fn sets_lower(card: &BoundCard) -> bool
     ensures { result ≡ bounds.sets_lower (bound_seen card.now) }
 {

@@ -45,7 +45,7 @@ fn is_read(kind: BoundKind, number: u32) -> bool
     number != 1 && (takes_value(kind) || number != 4)
 }
 
-// The text of the field at a place, counted from 0, among the fields that are read after the kind.
+// The text of the field at a place, counted from 0, among the fields that are read after the kind; none past the last.
 fn text_read(kind: BoundKind, fields: &[Field], place: usize) -> Option<&[u8]>
     ensures { option_copied result
         ≡ slice_get (texts_of (filter (λ f. bounds.is_read kind f.number) fields.now)) place }
@@ -62,7 +62,8 @@ fn text_read(kind: BoundKind, fields: &[Field], place: usize) -> Option<&[u8]>
     None
 }
 
-// The set, the column and the value among the texts after the kind. The set may be left out.
+// The set, the column and the value among the texts after the kind. The set may be left out; the value is empty where
+// the kind takes none. Any other number of texts is a fault.
 fn texts_by<'a>(
     has_value: bool,
     first: Option<&'a [u8]>,
@@ -85,7 +86,8 @@ fn texts_by<'a>(
     Ok(BoundTexts { set, column, value })
 }
 
-// The set, the column and the value of a card of this kind, whose fields have a shape of the format.
+// The set, the column and the value of a card of BOUNDS of this kind. Fields of a shape that such a card may not have
+// are a fault.
 #[tactic(auto, unfolding(spec_mps::specs::Bounds::bound_texts))]
 fn bound_texts(style: Style, kind: BoundKind, fields: &[Field]) -> Result<BoundTexts<'_>, Code>
     ensures { texts_made result ≡ bounds.bound_texts style kind fields.now }
@@ -102,7 +104,7 @@ fn bound_texts(style: Style, kind: BoundKind, fields: &[Field]) -> Result<BoundT
     )
 }
 
-// Whether a card has set the lower bound of the column at this place.
+// Whether a card has set the lower bound of the column at this place; no past the end.
 fn is_lowered(lowered: &[bool], place: usize) -> bool
     ensures { result ≡ get_or lowered.now place false }
 {
@@ -112,7 +114,8 @@ fn is_lowered(lowered: &[bool], place: usize) -> bool
     }
 }
 
-// Notes at this place whether a card sets the lower bound. A place past the end changes nothing.
+// Notes at this place that a card has set the lower bound, if `sets_lower` says so; an earlier note stays. A place past
+// the end changes nothing.
 fn lower_at(lowered: &mut [bool], place: usize, sets_lower: bool)
     ensures { lowered.new ≡ changed_at place (λ b. b || sets_lower) lowered.old }
 {
@@ -123,7 +126,7 @@ fn lower_at(lowered: &mut [bool], place: usize, sets_lower: bool)
 
 impl Draft {
     /// Reads a data card of BOUNDS: sets the bounds of its column, unless it belongs to another set than the one in
-    /// use.
+    /// use. A wrong kind, shape, column or value is a fault.
     #[tactic(auto, unfolding(spec_mps::specs::Bounds::bounds_card))]
     pub(crate) fn bounds_card(
         &mut self,
@@ -141,7 +144,8 @@ impl Draft {
         self.use_bound(alloc, kind, texts)
     }
 
-    // Sets the bounds of the column that the texts name, and makes their set the one that is used.
+    // Sets the bounds of the column that the texts name, and makes their set the one in use. An unknown column, or a
+    // value that the kind does not take, is a fault.
     #[tactic(auto, unfolding(spec_mps::specs::Bounds::use_bound))]
     fn use_bound(&mut self, alloc: Global, kind: BoundKind, texts: BoundTexts) -> Result<(), Fault>
         ensures { GivesState (bounds.use_bound (state_of self.old) kind (texts_seen texts.entry))

@@ -29,7 +29,7 @@ fn read_card(
 }
 
 impl Draft {
-    // Reads a data card in the section that the text is in.
+    // Reads a data card in the section that the text is in. A data card in no section, or under NAME, is a fault.
     fn data_card(
         &mut self,
         alloc: Global,
@@ -51,7 +51,8 @@ impl Draft {
         }
     }
 
-    // Reads a card: begins a section, or reads a data card, or skips a comment.
+    // Reads a card: begins a section, or reads a data card, or skips the line. Says whether the text goes on or is at
+    // its end.
     fn on_card(
         &mut self,
         alloc: Global,
@@ -86,7 +87,8 @@ impl Draft {
         self.on_card(alloc, limits, style, &card)
     }
 
-    /// Reads a line, which may be too long, or the end of the input.
+    /// Reads a line, and says whether the text goes on or is at its end. A line that is wrong or too long is a fault,
+    /// and so is the end of the input, or of what may be read of it, in place of a line.
     #[tactic(auto, unfolding(spec_mps::specs::Steps::step))]
     pub(crate) fn step(
         &mut self,

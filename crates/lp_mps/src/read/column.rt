@@ -10,7 +10,7 @@ use spec_mps::Target;
 use std::alloc::{AllocError, Global};
 use std::mem;
 
-/// A column with the bounds 0 and none, and no numbers.
+/// A column with the cost 0, the lower bound 0, no upper bound and no entries.
 pub(crate) fn make_column(alloc: Global, name: Name) -> Column
     ensures { result ≡ reader.new_column name }
 {
@@ -23,7 +23,8 @@ pub(crate) fn make_column(alloc: Global, name: Name) -> Column
     }
 }
 
-/// Gives the column a number: as its cost, or as a further entry, unless the number is 0.
+/// Gives the column a number: as its cost in place of the one it has, or as a further entry in a row. The number 0 is
+/// no entry.
 pub(crate) fn put_number(column: &mut Column, target: Target, value: Frac) -> Result<(), AllocError>
     ensures ok { OnOk result (ordered column.new ≡ reader.with_number (ordered column.old) target value) }
     ensures named { column.new.name ≡ column.old.name }

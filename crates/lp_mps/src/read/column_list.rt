@@ -62,7 +62,7 @@ impl Columns {
         self.names.len()
     }
 
-    /// Whether cards are read of the column with this name.
+    /// Whether the current column, of which cards are read, has this name.
     pub(crate) fn is_open(&self, name: &[u8]) -> bool
         ensures { result ≡ is_open self.now.current name.now }
     {
@@ -72,14 +72,14 @@ impl Columns {
         }
     }
 
-    /// Whether a column has this name.
+    /// Whether a column has this name, the current one or one before.
     pub(crate) fn has(&self, name: &[u8]) -> bool
         ensures { result ≡ list_any (λ c. same c.name name.now) (columns_with self.now.whole self.now.current) }
     {
         self.names.has(name)
     }
 
-    /// The place of the column with this name, among those that are whole.
+    /// The place of the column with this name, among those whose cards are all read; none if no such column has it.
     pub(crate) fn place_of(&self, name: &[u8]) -> Option<usize>
         ensures { result ≡ position (λ c. same c.name name.now) self.now.whole }
     {
@@ -89,7 +89,8 @@ impl Columns {
         }
     }
 
-    /// Makes the current column whole, with its entries sorted, so that no more cards are read of it.
+    /// Makes the current column whole, with its entries sorted, so that no more cards are read of it. Without a current
+    /// column nothing changes.
     pub(crate) fn close(&mut self) -> Result<(), AllocError>
         ensures { OnOk result
             (self.new ≡ record { whole = columns_with self.old.whole self.old.current; current = None }) }
@@ -126,8 +127,9 @@ impl Columns {
         put_number(column, target, value)
     }
 
-    /// Sets the bounds of a column as a card of BOUNDS gives them. The place is the column's number among those whose
-    /// cards of COLUMNS are all read. A place past the end changes nothing.
+    /// Sets the bounds of a column as a card of BOUNDS gives them; `lowered` says whether an earlier card has set its
+    /// lower bound. The place is the column's number among those whose cards of COLUMNS are all read. A place past the
+    /// end changes nothing.
     pub(crate) fn bound_at(&mut self, place: usize, lowered: bool, card: &BoundCard)
         ensures { self.new ≡ record (self.old)
             { whole = changed_at place (bounded lowered (bound_seen card.now)) self.old.whole } }
@@ -135,7 +137,7 @@ impl Columns {
         bound_at(&mut self.whole, place, lowered, card);
     }
 
-    /// The columns that are whole.
+    /// The columns whose cards are all read. The current one is dropped.
     pub(crate) fn into_vec(self) -> Vec<Column>
         ensures { result.items ≡ self.whole }
     {

@@ -29,7 +29,8 @@ fn marker_field(style: Style) -> u32
 }
 
 impl Draft {
-    /// Reads a data card of COLUMNS: gives the column that it names its numbers, and begins that column if it is new.
+    /// Reads a data card of COLUMNS: gives the column that it names its numbers, and begins that column if it is new. A
+    /// card that marks integer columns, or has a wrong shape, name or number, is a fault.
     #[tactic(auto, unfolding(spec_mps::specs::Reader::columns_card, spec_mps::specs::Shapes::shaped))]
     pub(crate) fn columns_card(
         &mut self,
@@ -50,7 +51,8 @@ impl Draft {
         self.column_by(alloc, limits, fields.as_slice())
     }
 
-    // Reads a column's name and then pairs of a row's name and a number, and gives the column these numbers.
+    // Reads a column's name and then pairs of a name, of a row or the objective, and a number, and gives the column
+    // these numbers. A wrong name or number is a fault.
     fn column_by(
         &mut self,
         alloc: Global,
@@ -70,8 +72,8 @@ impl Draft {
         self.pairs(Numbers::Entries, pairs)
     }
 
-    // Makes the column with this name current, so that cards are read of it. Its name may not be that of a column
-    // before it.
+    // Makes the column with this name current. Where it is a new one, the one before becomes whole. The name of a
+    // column before that, or one column too many, is a fault.
     #[tactic(auto, unfolding(spec_mps::specs::Reader::opened))]
     fn open(&mut self, alloc: Global, limits: SizeLimits, name: &[u8]) -> Result<(), Fault>
         ensures { GivesState (reader.opened limits (state_of self.old) name.now) (state_of self.new) result }

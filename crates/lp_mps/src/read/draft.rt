@@ -35,7 +35,7 @@ pub(crate) struct Draft {
 }
 
 impl Draft {
-    /// A model of which nothing has been read.
+    /// A draft of a model of which nothing has been read.
     pub(crate) fn new(alloc: Global) -> Self
         ensures { state_of result ≡ reader.start }
     {
@@ -79,7 +79,7 @@ impl Draft {
         }
     }
 
-    /// The row or the objective that has this name.
+    /// The row or the objective that has this name; none if neither has it.
     #[tactic(auto, unfolding(spec_mps::specs::Reader::place_of))]
     pub(crate) fn place_of(&self, name: &[u8]) -> Option<Target>
         ensures { result ≡ reader.place_of (state_of self.now) name.now }
@@ -94,7 +94,7 @@ impl Draft {
     }
 }
 
-/// Stores a copy of the name.
+/// Puts a copy of the name in place of what was stored.
 pub(crate) fn set_name(
     place: &mut Option<Name>,
     alloc: Global,

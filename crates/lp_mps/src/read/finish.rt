@@ -39,7 +39,7 @@ fn sense_or_min(sense: Option<Sense>) -> Sense
 }
 
 impl Draft {
-    /// Reads a line. Where it ends the text, gives the model that was read.
+    /// Reads a line. If it ends the text, gives the model that was read; else none.
     pub(crate) fn advance(
         &mut self,
         alloc: Global,
@@ -57,7 +57,7 @@ impl Draft {
         }
     }
 
-    // The model that was read, which has an objective. The current column becomes whole.
+    // The model that was read. A fault where it has no objective. The current column becomes whole first.
     #[tactic(auto, unfolding(spec_mps::specs::Steps::finished, spec_mps::specs::Steps::model_by))]
     fn finish(&mut self, alloc: Global) -> Result<Model, Fault>
         requires { IsKept (steps.finished (state_of self.old)) }

@@ -36,7 +36,8 @@ impl Numbers {
 }
 
 impl Draft {
-    /// Reads pairs of a row's name and a number, and gives each row its number.
+    /// Reads pairs of a name, of a row or the objective, and a number, and gives each its number: an entry, a right
+    /// side or a range, as `what` says. A range of a free row is left out. A wrong name or number is a fault.
     pub(crate) fn pairs(&mut self, what: Numbers, fields: &[Field]) -> Result<(), Fault>
         ensures { GivesState (numbers.pairs_by what (state_of self.old) (reader.pairs_of (texts_of fields.now)))
             (state_of self.new) result }
@@ -49,7 +50,8 @@ impl Draft {
         Ok(())
     }
 
-    // The row or the objective to give the number to. The objective has no range, and a free row's range is dropped.
+    // What gets the number: the row or the objective that was named. None for the range of a free row. A range for the
+    // objective is a fault.
     fn target_of(&self, what: Numbers, target: Target) -> Result<Option<Target>, Code>
         ensures { result ≡ numbers.target_of what (state_of self.now) target }
     {
@@ -60,8 +62,8 @@ impl Draft {
         }
     }
 
-    // Reads a row's name and a number. The row gets the number as an entry, a right side or a range, as `what` says. A
-    // range of a free row is left out.
+    // Reads the name of a row or the objective, and a number, which it gets as an entry, a right side or a range, as
+    // `what` says. A range of a free row is left out. A wrong name or number is a fault.
     fn pair(&mut self, what: Numbers, name: &[u8], text: &[u8]) -> Result<(), Fault>
         ensures { GivesState (numbers.pair_by what (state_of self.old) name.now text.now) (state_of self.new) result }
     {
@@ -76,7 +78,7 @@ impl Draft {
         }
     }
 
-    // Gives a row or the objective a number, unless it has one in this column or section already.
+    // Gives a row or the objective a number. A second one in this column or section is a fault.
     fn put(&mut self, what: Numbers, target: Target, value: Frac) -> Result<(), Fault>
         ensures { GivesState (numbers.put_by what (state_of self.old) target value) (state_of self.new) result }
     {
@@ -87,7 +89,8 @@ impl Draft {
         Ok(())
     }
 
-    // Gives a row or the objective this number, as an entry of the current column, a right side or a range.
+    // Gives a row or the objective this number: as an entry of the current column (or its cost), a right side or a
+    // range, which the objective does not get.
     fn give(&mut self, what: Numbers, target: Target, value: Frac) -> Result<(), AllocError>
         ensures { OnOk result (state_of self.new ≡ numbers.with_by what (state_of self.old) target value) }
     {

@@ -68,7 +68,7 @@ impl Drop for ReaderWithin {
 }
 
 impl ReaderWithin {
-    /// A reader that has read nothing.
+    /// A reader of a text in this form, within these limits, that has read nothing.
     pub fn new(alloc: Global, limits: SizeLimits, style: Style) -> Self
         requires { AreAtMost limits large_limits }
         ensures { result ≡ record {
@@ -84,14 +84,15 @@ impl ReaderWithin {
         }
     }
 
-    /// The limits of the model's size.
+    /// The limits of size that the reader keeps its model within.
     pub fn limits(&self) -> SizeLimits
         ensures { result ≡ self.now.limits }
     {
         self.limits
     }
 
-    /// Takes the next line of a text, and gives the model or a fault where the text ends with it.
+    /// Takes the next line of a text. Gives the model or a fault where the text ends with it, `More` where it goes on,
+    /// and `NoMemory` where memory is refused.
     pub fn feed(&mut self, alloc: Global, line: &Line) -> Feed<Model, MpsFault>
         requires { self.old.text.lines < 2 ^ 32 - 1 }
         ensures feeds { Feeds (step self.old.limits self.old.text.style self.old.text.state line.now)

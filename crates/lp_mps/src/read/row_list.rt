@@ -77,7 +77,7 @@ impl Rows {
         Ok(())
     }
 
-    /// The place of the row with this name.
+    /// The place of the row with this name, counted from 0; none if no row has it.
     pub(crate) fn place_of(&self, name: &[u8]) -> Option<u32>
         ensures { result ≡ position (λ r. same r.name name.now) self.now }
     {
@@ -87,7 +87,7 @@ impl Rows {
         }
     }
 
-    /// Whether the row at a place is free. Past the end there is none.
+    /// Whether the row at a place is free; false past the end.
     pub(crate) fn is_free(&self, at: u32) -> bool
         ensures { result ≡ has_no_limits (get_or self.now at no_row).kind }
     {
@@ -97,14 +97,14 @@ impl Rows {
         }
     }
 
-    /// Gives the row at a place this right side. Past the end there is none.
+    /// Gives the row at a place this right side. Past the end nothing changes.
     pub(crate) fn set_rhs(&mut self, at: u32, value: Frac)
         ensures { self.new ≡ changed_at at (λ r. record r { rhs = value }) self.old }
     {
         set_rhs_in(&mut self.items, at as usize, value);
     }
 
-    /// Gives the row at a place this range. Past the end there is none.
+    /// Gives the row at a place this range. Past the end nothing changes.
     pub(crate) fn set_range(&mut self, at: u32, value: Frac)
         ensures { self.new ≡ changed_at at (λ r. record r { range = Some value }) self.old }
     {

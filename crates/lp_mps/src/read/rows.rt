@@ -17,7 +17,8 @@ use spec_mps::{Code, Section, Style};
 use std::alloc::Global;
 
 impl Draft {
-    /// Reads a data card of ROWS: adds its row, or takes it as the objective.
+    /// Reads a data card of ROWS: adds its row, or takes it as the objective. A wrong shape, an unknown kind, a name
+    /// that is bad or taken, or one row too many is a fault.
     #[tactic(auto, unfolding(spec_mps::specs::Reader::rows_card, spec_mps::specs::Shapes::shaped))]
     pub(crate) fn rows_card(
         &mut self,
@@ -37,7 +38,8 @@ impl Draft {
         self.add_row(alloc, limits, kind, fields.text_at(2))
     }
 
-    // Adds a row of this kind and name, whose name is good and new. The first free row is the objective.
+    // Adds a row of this kind and name; the first free row is the objective. A bad name, one that is taken, or one row
+    // too many is a fault.
     #[tactic(auto, unfolding(spec_mps::specs::Reader::add_row))]
     fn add_row(
         &mut self,
@@ -67,7 +69,7 @@ impl Draft {
         }
     }
 
-    // Adds a row of this kind and name at the end, or takes it as the objective, if there is room for it.
+    // Adds a row of this kind and name at the end, or takes it as the objective. One row too many is a fault.
     fn put_row(
         &mut self,
         alloc: Global,

@@ -14,7 +14,7 @@ use lp_model::is_model_name;
 use spec_mps::{Code, Section, Seen};
 use std::alloc::{AllocError, Global};
 
-// Whether the section's card has been read.
+// Whether the card that begins the section is among those that were seen; never for ENDATA.
 fn has_begun(seen: Seen, part: Section) -> bool
     ensures { result ≡ steps.has_begun seen part }
 {
@@ -30,7 +30,7 @@ fn has_begun(seen: Seen, part: Section) -> bool
     }
 }
 
-// The sections that have begun, with this one.
+// The sections whose cards have been read, with this one added, unless it is ENDATA.
 fn with_section(mut seen: Seen, part: Section) -> Seen
     ensures { result ≡ steps.with_section seen part }
 {
@@ -47,8 +47,8 @@ fn with_section(mut seen: Seen, part: Section) -> Seen
     seen
 }
 
-// Whether the section may begin now: NAME and OBJSENSE stand before ROWS, and RHS, RANGES, BOUNDS and ENDATA after
-// COLUMNS.
+// Whether the section may begin after those that were seen: NAME and OBJSENSE stand before ROWS, COLUMNS after ROWS,
+// and RHS, RANGES, BOUNDS and ENDATA after COLUMNS. ROWS may always begin.
 fn may_follow(seen: Seen, part: Section) -> bool
     ensures { result ≡ steps.may_follow seen part }
 {
@@ -61,7 +61,8 @@ fn may_follow(seen: Seen, part: Section) -> bool
 }
 
 impl Draft {
-    /// Reads a card that begins a section, which may begin now and has not begun before.
+    /// Begins the section that a card names, or says that the text ends where that is ENDATA. One that is unknown, may
+    /// not begin now or has begun before is a fault, and so is a wrong second word, or COLUMNS without an objective.
     #[tactic(auto, unfolding(spec_mps::specs::Steps::section_card))]
     pub(crate) fn section_card(&mut self, alloc: Global, fields: &Fields) -> Result<Went, Fault>
         ensures { Goes (steps.section_card (state_of self.old) fields.now) (state_of self.new) result }
@@ -75,7 +76,8 @@ impl Draft {
         self.begin(alloc, part, fields.text_at(2))
     }
 
-    // Begins a section, or says that the text ends. `word` is the card's second word, empty where there is none.
+    // Begins a section, or says that the text ends, for ENDATA. `word` is the card's second word, empty where there is
+    // none.
     fn begin(&mut self, alloc: Global, part: Section, word: &[u8]) -> Result<Went, Fault>
         ensures { Goes (steps.begin (state_of self.old) part word.now) (state_of self.new) result }
     {
@@ -99,7 +101,8 @@ impl Draft {
         Ok(())
     }
 
-    // Reads the second word of a section's card, which is empty where there is none.
+    // Reads the second word of a section's card, which is empty where there is none: the model's name, or the sense.
+    // COLUMNS without an objective is a fault.
     fn head(&mut self, alloc: Global, part: Section, word: &[u8]) -> Result<(), Fault>
         ensures { GivesState (steps.headed (state_of self.old) part word.now) (state_of self.new) result }
     {
@@ -120,7 +123,7 @@ impl Draft {
         }
     }
 
-    // Stores the word as the model's name, if it is a good one.
+    // Stores the word as the model's name. A bad one is a fault.
     fn take_name(&mut self, alloc: Global, word: &[u8]) -> Result<(), Fault>
         ensures { GivesState (steps.headed (state_of self.old) part.Name word.now) (state_of self.new) result }
     {

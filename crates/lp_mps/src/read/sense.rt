@@ -11,7 +11,7 @@ use crate::read::words::sense_of;
 use spec_mps::{Code, Section, Style};
 
 impl Draft {
-    // Stores the sense that the text says, unless one was given before.
+    // Stores the sense that the text says. Another text, or a second sense, is a fault.
     #[tactic(auto, unfolding(spec_mps::specs::Steps::take_sense))]
     fn take_sense(&mut self, text: &[u8]) -> Result<(), Fault>
         ensures { GivesState (steps.take_sense (state_of self.old) text.now) (state_of self.new) result }
@@ -26,7 +26,8 @@ impl Draft {
         Ok(())
     }
 
-    /// Stores the sense beside the word OBJSENSE, if there is one.
+    /// Stores the sense that the word beside OBJSENSE says. An empty word changes nothing. A word that is no sense, or
+    /// a second sense, is a fault.
     pub(crate) fn sense_beside(&mut self, word: &[u8]) -> Result<(), Fault>
         ensures { GivesState (steps.sense_beside (state_of self.old) word.now) (state_of self.new) result }
     {
@@ -36,7 +37,7 @@ impl Draft {
         self.take_sense(word)
     }
 
-    /// Reads a data card of OBJSENSE: stores the sense that it says.
+    /// Reads a data card of OBJSENSE: stores the sense that it says. Another text, or a second sense, is a fault.
     #[tactic(auto, unfolding(spec_mps::specs::Steps::sense_card, spec_mps::specs::Shapes::shaped))]
     pub(crate) fn sense_card(&mut self, style: Style, fields: &Fields) -> Result<(), Fault>
         ensures { GivesState (steps.sense_card style (state_of self.old) fields.now) (state_of self.new) result }

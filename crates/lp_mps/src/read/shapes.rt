@@ -69,7 +69,7 @@ fn has_valued_shape(style: Style, fields: &[Field]) -> bool
     }
 }
 
-/// Whether a card of this section may have these fields.
+/// Whether a card of this section may have these fields; of BOUNDS, one with a value.
 #[tactic(auto, unfolding(spec_mps::specs::Shapes::has_shape))]
 pub(crate) fn has_shape(style: Style, section: Section, fields: &[Field]) -> bool
     ensures { result ≡ shapes.has_shape (shapes.shapes_of style section) fields.now }

@@ -13,8 +13,8 @@ use spec_mps::{Code, Style};
 use std::alloc::Global;
 
 impl Draft {
-    /// Reads a data card of RHS or RANGES: gives its rows their numbers, unless it belongs to another set than the one
-    /// in use.
+    /// Reads a data card of RHS or RANGES: gives the rows that it names their numbers, but a free row no range. A card
+    /// of another set than the one in use is left out. A wrong shape, name or number is a fault.
     #[tactic(auto, unfolding(spec_mps::specs::Shapes::shaped))]
     pub(crate) fn set_card(
         &mut self,

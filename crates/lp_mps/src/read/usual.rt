@@ -32,7 +32,7 @@ impl Model for Reader {
 }
 
 impl Reader {
-    /// A reader that has read nothing.
+    /// A reader of a text in this form, within the usual limits, that has read nothing.
     pub fn new(alloc: Global, style: Style) -> Self
         ensures { result ≡ record { style = style; state = start; lines = 0 } }
     {
@@ -41,7 +41,8 @@ impl Reader {
         }
     }
 
-    /// Takes the next line of a text, and gives the model or a fault where the text ends with it.
+    /// Takes the next line of a text. Gives the model or a fault where the text ends with it, `More` where it goes on,
+    /// and `NoMemory` where memory is refused.
     pub fn feed(&mut self, alloc: Global, line: &Line) -> Feed<UsualModel, MpsFault>
         requires { self.old.lines < 2 ^ 32 - 1 }
         ensures { Feeds (step usual_limits self.old.style self.old.state line.now) self.old.style

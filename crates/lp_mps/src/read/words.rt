@@ -45,7 +45,7 @@ const BOUND_KINDS: [(&[u8], Result<BoundKind, Code>); 10] = [
     (b"SC", Err(Code::SemiContinuous)),
 ];
 
-/// The section that a word begins.
+/// The section that a word begins; none for another word.
 #[tactic(auto, unfolding(spec_mps::specs::Shapes::section_of))]
 pub(crate) fn section_of(word: &[u8]) -> Option<Section>
     ensures { result ≡ shapes.section_of word.now }
@@ -53,7 +53,7 @@ pub(crate) fn section_of(word: &[u8]) -> Option<Section>
     look_up(word, &SECTIONS)
 }
 
-/// The sense that a word says.
+/// The sense that a word says; none for another word.
 #[tactic(auto, unfolding(spec_mps::specs::Shapes::sense_of))]
 pub(crate) fn sense_of(word: &[u8]) -> Option<Sense>
     ensures { result ≡ shapes.sense_of word.now }
@@ -61,7 +61,7 @@ pub(crate) fn sense_of(word: &[u8]) -> Option<Sense>
     look_up(word, &SENSES)
 }
 
-/// The kind of rows that a word says.
+/// The kind of row that a letter says; none for another word.
 #[tactic(auto, unfolding(spec_mps::specs::Shapes::row_type_of))]
 pub(crate) fn row_type_of(word: &[u8]) -> Option<Kind>
     ensures { result ≡ shapes.row_type_of word.now }
@@ -69,7 +69,7 @@ pub(crate) fn row_type_of(word: &[u8]) -> Option<Kind>
     look_up(word, &ROW_TYPES)
 }
 
-/// The kind of bounds that a word says.
+/// The kind of bound that a word says; a fault for another word.
 #[tactic(auto, unfolding(spec_mps::specs::Shapes::bound_kind_of))]
 pub(crate) fn bound_kind_of(word: &[u8]) -> Result<BoundKind, Code>
     ensures { result ≡ shapes.bound_kind_of word.now }

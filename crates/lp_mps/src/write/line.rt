@@ -59,7 +59,8 @@ pub(crate) struct Writer {
 }
 
 impl Writer {
-    // Adds a field to a line, behind a blank, or in fixed form at its column, whatever its width.
+    // Adds a field to a line, whatever its width: in free form behind a blank; in fixed form at its column, or right
+    // behind the line where this goes past that column.
     fn place(&self, number: u32, text: &[u8], line: &mut Bytes) -> Result<(), AllocError>
         ensures { OnOk result (line.new ≡ written.padded self.now.style number line.old ++ text.now) }
     {
@@ -70,14 +71,14 @@ impl Writer {
         line.extend(text)
     }
 
-    // Whether the text is too wide for its field, which it may only be in fixed form.
+    // Whether the text is too wide for its field of fixed form. In free form no text is.
     fn is_wide(&self, number: u32, text: &[u8]) -> bool
         ensures { result ≡ is_wide_in self.now.style (written.field_at number text.now) }
     {
         self.style == Style::Fixed && text.len() > field_width(number)
     }
 
-    // Adds fields to a line, each with its number in fixed form, or stops at the first that is too wide.
+    // Adds fields to a line, each with its number in fixed form. The first that is too wide for its field stops it.
     fn fields(&self, fields: &[(u32, &[u8])], line: &mut Bytes) -> Result<(), WriteStop>
         ensures { PutsFields self.now.style (fields_of fields.now) line.old line.new result }
     {
@@ -90,7 +91,7 @@ impl Writer {
         Ok(())
     }
 
-    /// Adds a data card of these fields, each with its number in fixed form.
+    /// Adds a data card of these fields, each with its number in fixed form. A text too wide for its field stops it.
     pub fn data(&self, fields: &[(u32, &[u8])], to: &mut Bytes) -> Result<(), WriteStop>
         ensures { Adds self.now.style (written.Data (fields_of fields.now) ∷ []) to.old to.new result }
     {
@@ -100,14 +101,14 @@ impl Writer {
         Ok(())
     }
 
-    /// Adds a card that begins a section.
+    /// Adds the line of a heading that begins a section.
     pub fn section(&self, word: &[u8], to: &mut Bytes) -> Result<(), AllocError>
         ensures { OnOk result (IsAdded self.now.style (written.section_card word.now ∷ []) to.old to.new) }
     {
         add_line(word, to)
     }
 
-    /// Adds the card of the model's name, which may be empty.
+    /// Adds the line NAME with the model's name, which may be empty.
     pub fn name(&self, name: &[u8], to: &mut Bytes) -> Result<(), AllocError>
         ensures { OnOk result (IsAdded self.now.style (written.name_card name.now ∷ []) to.old to.new) }
     {

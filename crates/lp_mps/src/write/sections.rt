@@ -23,7 +23,7 @@ pub(crate) enum RowNumber {
     Range,
 }
 
-/// The word of a kind of rows.
+/// The letter of a kind of row.
 fn kind_word(kind: Kind) -> &'static [u8]
     ensures { result.now ≡ written.kind_word kind }
 {
@@ -36,14 +36,14 @@ fn kind_word(kind: Kind) -> &'static [u8]
 }
 
 impl Writer {
-    // Adds the card of a row: its kind and its name.
+    // Adds a card of ROWS: the word of the row's kind and the row's name.
     fn type_card(&self, word: &[u8], name: &[u8], to: &mut Bytes) -> Result<(), WriteStop>
         ensures { Adds self.now.style (written.type_card word.now name.now ∷ []) to.old to.new result }
     {
         self.data(&[(1, word), (2, name)], to)
     }
 
-    // Adds a card that gives `name` a number. `group` is a column's name, or a set's.
+    // Adds a card that gives a row or the objective, by its name, a number. `group` is a column's name, or a set's.
     fn number_card(
         &self,
         group: &[u8],
@@ -57,7 +57,7 @@ impl Writer {
         self.data(&[(2, group), (3, name), (4, text.as_slice())], to)
     }
 
-    // Adds a card of BOUNDS without a value.
+    // Adds a card of BOUNDS without a value: its kind, the set `BND` and the column's name.
     fn unbound_card<'a>(
         &self,
         kind: &'a [u8],
@@ -69,7 +69,7 @@ impl Writer {
         self.data(&[(1, kind), (2, b"BND"), (3, name)], to)
     }
 
-    // Adds a card of BOUNDS with a value.
+    // Adds a card of BOUNDS with a value: its kind, the set `BND`, the column's name and the value.
     fn bound_card(
         &self,
         kind: &[u8],
@@ -160,7 +160,7 @@ impl Writer {
         Ok(())
     }
 
-    /// Adds `RHS`: the right sides that are not 0.
+    /// Adds `RHS`: the right sides that are not 0. First stands that of the objective, the negative of its offset.
     pub fn sides(&self, model: &Model, to: &mut Bytes) -> Result<(), WriteStop>
         ensures { Adds self.now.style (written.sides_cards model.now) to.old to.new result }
     {
@@ -169,7 +169,7 @@ impl Writer {
         self.row_numbers(RowNumber::Side, model, to)
     }
 
-    // Adds the right sides, or the ranges, of all rows.
+    // Adds the right sides of all rows, but those that are 0, or the ranges of all rows that have one, as `which` says.
     fn row_numbers(&self, which: RowNumber, model: &Model, to: &mut Bytes) -> Result<(), WriteStop>
         ensures { Adds self.now.style (flat_map (λ r. number_cards which r) model.now.rows) to.old to.new result }
     {
@@ -179,7 +179,7 @@ impl Writer {
         Ok(())
     }
 
-    // Adds the right side, or the range, of a row.
+    // Adds the right side of a row, unless it is 0, or its range, if it has one, as `which` says.
     fn row_number(&self, which: RowNumber, row: &Row, to: &mut Bytes) -> Result<(), WriteStop>
         ensures { Adds self.now.style (number_cards which row.now) to.old to.new result }
     {
@@ -189,7 +189,7 @@ impl Writer {
         }
     }
 
-    // Adds the card of a right side, unless it is 0.
+    // Adds the card of a right side of a row or the objective, unless it is 0.
     fn side(&self, name: &[u8], value: &Frac, to: &mut Bytes) -> Result<(), WriteStop>
         ensures { Adds self.now.style (written.side_cards name.now value.now) to.old to.new result }
     {
@@ -210,7 +210,7 @@ impl Writer {
         self.row_numbers(RowNumber::Range, model, to)
     }
 
-    // Adds the card of a range, if there is one.
+    // Adds the card of a row's range, if there is one.
     fn range(&self, name: &[u8], range: Option<Frac>, to: &mut Bytes) -> Result<(), WriteStop>
         ensures { Adds self.now.style (written.range_cards name.now range) to.old to.new result }
     {
@@ -220,7 +220,7 @@ impl Writer {
         }
     }
 
-    /// Adds `BOUNDS`, if a column has other bounds than the lower bound 0 alone.
+    /// Adds `BOUNDS` with the bounds of all columns that have others than the lower bound 0 alone, if there is one.
     pub fn bounds(&self, model: &Model, to: &mut Bytes) -> Result<(), WriteStop>
         ensures { Adds self.now.style (written.bounds_cards model.now) to.old to.new result }
     {

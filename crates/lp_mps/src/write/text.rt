@@ -30,7 +30,7 @@ impl Writer {
         self.sense(model.sense(), to)
     }
 
-    // Adds the sections up to `COLUMNS`.
+    // Adds the sections up to and with `COLUMNS`.
     fn front(&self, model: &Model, to: &mut Bytes) -> Result<(), WriteStop>
         ensures { Adds self.now.style (front_cards model.now) to.old to.new result }
     {
@@ -59,7 +59,7 @@ impl Writer {
     }
 }
 
-// The text of a model in this form, or the first text that is too wide for its field.
+// The text of a model in this style, free or fixed; or, in fixed form, the first text that is too wide for its field.
 fn text_of(alloc: Global, style: Style, model: &Model) -> Result<Bytes, WriteStop>
     ensures { GivesText style (written.cards_of model.now) result }
 {
@@ -79,7 +79,7 @@ pub fn free(alloc: Global, model: &Model) -> Result<Bytes, AllocError>
     }
 }
 
-/// The text of a model in fixed form, where each name and each number has room in its field.
+/// The text of a model in fixed form; or the first name or number that is too wide for its field.
 pub fn fixed(alloc: Global, model: &Model) -> Result<Bytes, WriteStop>
     ensures { IsFixed model.now result }
 {
