@@ -5,7 +5,7 @@
 --   greater.
 -- `most_is`: `at_most` fails where comparing the number with the limit gives greater, and passes where it gives equal
 --   or less.
--- `stands_is`: a number stands at a limit where the comparison of the two says equal.
+-- `stands_is`: a number stands at a limit exactly where the comparison of the two says equal.
 -- `plus_no_left`: adding a product whose left factor is 0 leaves the sum.
 -- `plus_no_right`: adding a product whose right factor is 0 leaves the sum.
 -- `plus_gives`: adding the product of v and w to s ends with s + v w.
@@ -13,26 +13,34 @@
 -- `passes`: a condition whose test is true passes.
 -- `fails`: condition n whose test is false ends with the refusal n.
 -- `no_first`: where a column of the point is outside its bounds, the check of an optimum ends with refusal 1.
--- `no_second`: where a row of the point is outside its limits, the check of an optimum ends with refusal 2.
--- `no_third`: where a reduced cost does not suit its column, the check of an optimum ends with refusal 3.
--- `no_fourth`: where a multiplier does not suit its row, the check of an optimum ends with refusal 4.
+-- `no_second`: where the columns are within, but a row is outside its limits, the check of an optimum ends with refusal
+--   2.
+-- `no_third`: where the point is feasible, but a reduced cost does not suit its column, the check of an optimum ends
+--   with refusal 3.
+-- `no_fourth`: where conditions 1 to 3 hold, but a multiplier does not suit its row, the check of an optimum ends with
+--   refusal 4.
 -- `all_pass`: where all four conditions hold, the check of an optimum ends with the point's value.
 -- `missing`: where the answer is none, the run ends with refusal n.
 -- `there`: where the answer is a number, the run ends with it.
--- `no_rows`: where the rows' sum is refused, the check of Farkas multipliers ends with refusal 1.
--- `no_columns`: where the columns' sum is refused, the check of Farkas multipliers ends with refusal 2.
+-- `no_rows`: where a row lacks the limit that its multiplier needs, the check of Farkas multipliers ends with refusal
+--   1.
+-- `no_columns`: where the rows have their limits, but a column lacks the bound that it needs, the check of Farkas
+--   multipliers ends with refusal 2.
 -- `compared`: where both sums are given, the check of Farkas multipliers is the test that the columns give less than
 --   the rows ask for.
 -- `clashed`: the check of a clash at column j is the test that its bounds cross.
--- `crossed_bounds`: a test that the bounds of column j cross is one of the bounds that the definition reads at j.
--- `crossed_is`: bounds that are both present cross where the comparison says that the lower one is greater.
+-- `crossed_bounds`: a test that the bounds of the code's column j cross tests those that the definition reads at j.
+-- `crossed_is`: bounds that are both present cross exactly where the comparison says that the lower one is greater.
 -- `by_test`: a test in the check of infeasibility may be replaced by an equal one.
 -- `better_above`: testing that v is above 0 is testing that its negative is below 0.
 -- `ray_first`: where a column of the point is outside its bounds, the check of a ray ends with refusal 1.
--- `ray_second`: where a row of the point is outside its limits, the check of a ray ends with refusal 2.
--- `ray_third`: where a column does not allow the ray, the check of the ray ends with refusal 3.
--- `ray_fourth`: where a row does not allow the ray, the check of the ray ends with refusal 4.
--- `ray_fifth`: where the objective does not improve along the ray, its check ends with refusal 5.
+-- `ray_second`: where the columns are within, but a row is outside its limits, the check of a ray ends with refusal 2.
+-- `ray_third`: where the point is feasible, but a column does not allow the ray, the check of the ray ends with refusal
+--   3.
+-- `ray_fourth`: where conditions 1 to 3 hold, but a row does not allow the ray, the check of the ray ends with refusal
+--   4.
+-- `ray_fifth`: where conditions 1 to 4 hold, but the objective does not improve along the ray, its check ends with
+--   refusal 5.
 -- `ray_all`: where all five conditions hold, the check of a ray ends with the verdict unbounded.
 -- `within_are`: testing given sums of the rows is testing the activities at the point.
 -- `tight_are`: testing given sums of the rows against the multipliers is testing the activities against them.

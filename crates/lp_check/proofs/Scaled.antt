@@ -3,7 +3,8 @@
 -- `undone`: numbers whose t-fold multiples are equal are equal.
 -- `less_times`: multiplying two numbers by t keeps which of them is less.
 -- `sums_are`: dividing the rows' sums of the t-fold numbers by t gives the rows' sums of the numbers.
--- `divided_are`: where the t-fold results are sums of the rows, the result is the sums divided by t.
+-- `divided_are`: where a result, taken t times, is the rows' sums of some numbers, each sum taken t times is the row's
+--   activity there.
 -- `cost_is`: dividing the cost of the t-fold point by t gives the cost of the point.
 -- `reduced_is`: where t d is the t-fold cost less the price at the t-fold multipliers, d is column j's reduced cost.
 -- `reduced_all`: the run without a limit of column j's reduced cost ends with that reduced cost.
@@ -146,6 +147,7 @@ reduced_all m y j =
     (sym (neg-sum_below (height m) (λ i. part y i *ℚ coefficient m i j)))
 
 -- ---- what rows ask for and columns give
+-- the result of a run taken t times; a refusal stays
 abbrev scaled : ℕ → Run ℚ → Run ℚ
 scaled t (Ok v) = Ok (multiple t v)
 scaled t (Err e) = Err e

@@ -8,7 +8,8 @@ use Rattle.spec_check.specs.Run.{check_run}
 use Rattle.lp_check.specs.declared.wide.certificate.Verdict.{Verdict}
 use Rattle.lp_check.specs.declared.wide.certificate.Verdict.TheVariants.{Yes, No}
 
--- The verdict is that of the run without a limit: what it shows, or the number of the first condition that fails.
+-- The verdict on the certificate is that of the check without a limit: what it shows of the model, or the number of the
+-- first condition that fails.
 abbrev pub Says : Model → Certificate (List ℚ) → Verdict → Type 0
 Says m cert (Yes known) = check_run None m cert ≡ Ok known
 Says m cert (No n) = check_run None m cert ≡ Err (stop.No n)

@@ -13,7 +13,8 @@ use crate::ray::{better, columns_allow, rows_allow};
 use lp_frac::Fracs;
 use lp_model::Model;
 
-// What a certificate of an optimum shows, or the first of its conditions that fails.
+// What a certificate of an optimum shows: the optimal value. Or the first of its conditions that fails, or the first
+// operation past 127 bits.
 fn optimal(model: &Model, x: &Fracs, y: &Fracs) -> Result<Known, CheckStop>
     requires point { length x.now ≡ width model.now }
     requires multipliers { length y.now ≡ height model.now }
@@ -26,7 +27,8 @@ fn optimal(model: &Model, x: &Fracs, y: &Fracs) -> Result<Known, CheckStop>
     Ok(Known::Optimal(value(model, x)?))
 }
 
-// What a certificate of a ray shows, or the first of its conditions that fails.
+// What a certificate with a ray shows: that the model is unbounded. Or the first of its conditions that fails, or the
+// first operation past 127 bits.
 fn unbounded(model: &Model, x: &Fracs, r: &Fracs) -> Result<Known, CheckStop>
     requires point { length x.now ≡ width model.now }
     requires ray { length r.now ≡ width model.now }

@@ -10,7 +10,8 @@ use crate::steps::{need, part, plus_product};
 use lp_frac::{Frac, Fracs, cmp, is_negative, is_positive, zero};
 use lp_model::{Model, lower_limit, upper_limit};
 
-// `s` with `d` times the limit added. Condition `n` fails where there is no limit.
+// `s` with `d` times the limit added. Condition `n` fails where there is no limit. Refused where an operation is past
+// 127 bits.
 fn weighed_at(n: u32, d: Frac, limit: Option<Frac>, s: Frac) -> Result<Frac, CheckStop>
     ensures { result ≡ run.weighed_at n (Some number_limit) d limit s }
 {
@@ -20,7 +21,8 @@ fn weighed_at(n: u32, d: Frac, limit: Option<Frac>, s: Frac) -> Result<Frac, Che
     }
 }
 
-// `$d` times the limit that its sign asks for in condition `$n`, onto `$sum`. The other limit is not taken.
+// `$d` times the limit that its sign asks for in condition `$n`, onto `$sum`; for 0 `$sum` alone. A limit that is not
+// asked for is not computed.
 macro_rules! weighed {
     ($n:literal, $d:expr, $above:expr, $below:expr, $sum:expr) => {
         if is_positive($d) {
@@ -33,7 +35,8 @@ macro_rules! weighed {
     };
 }
 
-// `sum` with what row `i` asks for added: its multiplier times the limit that the multiplier's sign needs.
+// `sum` with what row `i` asks for added: its multiplier times its lower limit for a multiplier above 0, or its upper
+// limit for one below 0. Condition 1 fails where the row lacks that limit. Refused where an operation is past 127 bits.
 fn row_asks(model: &Model, y: &Fracs, i: u32, sum: Frac) -> Result<Frac, CheckStop>
     requires inside { i < height model.now }
     requires multipliers { length y.now ≡ height model.now }
@@ -44,7 +47,8 @@ fn row_asks(model: &Model, y: &Fracs, i: u32, sum: Frac) -> Result<Frac, CheckSt
     weighed!(1, multiplier, lower_limit(row)?, upper_limit(row)?, sum)
 }
 
-// Condition 1: the sum of what all rows ask for. Each row has the limit that its multiplier needs.
+// The sum of what all rows ask for: each multiplier times the lower limit if it is above 0, the upper one if it is
+// below 0. Condition 1 fails where a row lacks that limit. Refused where an operation is past 127 bits.
 fn rows_ask(model: &Model, y: &Fracs) -> Result<Frac, CheckStop>
     requires { length y.now ≡ height model.now }
     ensures { result ≡ run.rows_ask_run (Some number_limit) model.now y.now }
@@ -56,7 +60,8 @@ fn rows_ask(model: &Model, y: &Fracs) -> Result<Frac, CheckStop>
     Ok(sum)
 }
 
-/// The multipliers' part in column `j`: its coefficients times the multipliers of their rows.
+/// The multipliers' part in column `j`: the sum of its coefficients times the multipliers of their rows. Refused where
+/// an operation is past 127 bits.
 pub fn priced(model: &Model, y: &Fracs, j: u32) -> Result<Frac, CheckStop>
     requires inside { j < width model.now }
     requires multipliers { length y.now ≡ height model.now }
@@ -69,8 +74,9 @@ pub fn priced(model: &Model, y: &Fracs, j: u32) -> Result<Frac, CheckStop>
     Ok(sum)
 }
 
-// `sum` with the most that column `j` gives added: the multipliers' part in it times the bound that the part's sign
-// needs.
+// `sum` with the most that column `j` gives added: the multipliers' part in it times its upper bound for a part above
+// 0, or its lower bound for one below 0. Condition 2 fails where the column lacks that bound. Refused where an
+// operation is past 127 bits.
 fn column_gives(model: &Model, y: &Fracs, j: u32, sum: Frac) -> Result<Frac, CheckStop>
     requires inside { j < width model.now }
     requires multipliers { length y.now ≡ height model.now }
@@ -81,7 +87,9 @@ fn column_gives(model: &Model, y: &Fracs, j: u32, sum: Frac) -> Result<Frac, Che
     weighed!(2, priced, column.upper, column.lower, sum)
 }
 
-// Condition 2: the most that all columns give. Each column has the bound that it needs.
+// The most that all columns give: the multipliers' part in each times its upper bound if the part is above 0, its lower
+// bound if it is below 0. Condition 2 fails where a column lacks that bound. Refused where an operation is past 127
+// bits.
 fn columns_give(model: &Model, y: &Fracs) -> Result<Frac, CheckStop>
     requires { length y.now ≡ height model.now }
     ensures { result ≡ run.columns_give_run (Some number_limit) model.now y.now }
@@ -93,7 +101,8 @@ fn columns_give(model: &Model, y: &Fracs) -> Result<Frac, CheckStop>
     Ok(sum)
 }
 
-/// What Farkas multipliers show, by the three conditions: the columns give less than the rows ask for.
+/// What Farkas multipliers show: that no point is feasible, if the columns give less than the rows ask for. Else the
+/// number of the first of the three conditions that fails, or the first operation past 127 bits.
 pub(crate) fn infeasible(model: &Model, y: &Fracs) -> Result<Known, CheckStop>
     requires { length y.now ≡ height model.now }
     ensures { result ≡ run.infeasible_run (Some number_limit) model.now y.now }
@@ -104,7 +113,8 @@ pub(crate) fn infeasible(model: &Model, y: &Fracs) -> Result<Known, CheckStop>
     Ok(Known::Infeasible)
 }
 
-// Condition 1: both bounds are there, and the lower one is above the upper one.
+// Condition 1 of a clash: both bounds are there, and the lower one is above the upper one. Else the condition fails.
+// Refused where comparing them is past 127 bits.
 fn crossed(lower: Option<Frac>, upper: Option<Frac>) -> Result<(), CheckStop>
     ensures { result ≡ run.crossed_run (Some number_limit) lower upper }
 {
@@ -114,7 +124,8 @@ fn crossed(lower: Option<Frac>, upper: Option<Frac>) -> Result<(), CheckStop>
     }
 }
 
-/// What the claim shows that the bounds of column `j` clash.
+/// What the claim that the bounds of column `j` clash shows: that no point is feasible. Else condition 1 fails, or
+/// comparing the bounds is past 127 bits.
 pub(crate) fn clash(model: &Model, j: u32) -> Result<Known, CheckStop>
     requires { j < width model.now }
     ensures { result ≡ run.clash_run (Some number_limit) model.now j }

@@ -21,7 +21,8 @@ pub fn signed(sense: Sense, cost: Frac) -> Frac
     }
 }
 
-// The reduced cost of column `j`: its signed cost less the multipliers' part in it.
+// The reduced cost of column `j` at the multipliers `y`: its cost, negated for `max`, less its coefficients times the
+// multipliers of their rows. Refused where an operation is past 127 bits.
 fn reduced(model: &Model, y: &Fracs, j: u32) -> Result<Frac, CheckStop>
     requires inside { j < width model.now }
     requires multipliers { length y.now ≡ height model.now }
@@ -34,7 +35,8 @@ fn reduced(model: &Model, y: &Fracs, j: u32) -> Result<Frac, CheckStop>
     Ok(rest)
 }
 
-// Whether `value` is at the column's bound that a reduced cost of this sign needs.
+// Whether `value` is at the column's lower bound where the reduced cost is above 0, and at its upper bound where that
+// is below 0. True for a reduced cost of 0.
 fn is_tight(column: &Column, reduced: Frac, value: Frac) -> bool
     ensures { result ≡ run.is_tight (bounds_of column.now) reduced value }
 {
@@ -47,7 +49,8 @@ fn is_tight(column: &Column, reduced: Frac, value: Frac) -> bool
     }
 }
 
-// Condition 3 at column `j`: its value is at the bound that its reduced cost needs.
+// Condition 3 at column `j`: its value is at its lower bound for a reduced cost above 0, at its upper bound for one
+// below 0. Else the condition fails, unless an operation is past 127 bits.
 fn column_tight(model: &Model, x: &Fracs, y: &Fracs, j: u32) -> Result<(), CheckStop>
     requires inside { j < width model.now }
     requires point { length x.now ≡ width model.now }
@@ -58,7 +61,8 @@ fn column_tight(model: &Model, x: &Fracs, y: &Fracs, j: u32) -> Result<(), Check
     need(3, is_tight(model.col(j), reduced, part(x, j)))
 }
 
-/// Condition 3: the value of each column is at the bound that its reduced cost needs.
+/// Condition 3: the value of each column is at its lower bound for a reduced cost above 0, at its upper bound for one
+/// below 0. Else the condition fails, unless an operation is past 127 bits.
 pub(crate) fn columns_tight(model: &Model, x: &Fracs, y: &Fracs) -> Result<(), CheckStop>
     requires point { length x.now ≡ width model.now }
     requires multipliers { length y.now ≡ height model.now }
@@ -70,7 +74,8 @@ pub(crate) fn columns_tight(model: &Model, x: &Fracs, y: &Fracs) -> Result<(), C
     Ok(())
 }
 
-// Condition 4 at row `i`: its sum is at the limit that its multiplier needs. Sum and limit are computed anew.
+// Condition 4 at row `i`: its sum is at its lower limit for a multiplier above 0, at its upper limit for one below 0.
+// Else the condition fails. For a multiplier that is not 0 sum and limit are computed anew; refused past 127 bits.
 fn row_tight(model: &Model, x: &Fracs, y: &Fracs, i: u32) -> Result<(), CheckStop>
     requires inside { i < height model.now }
     requires point { length x.now ≡ width model.now }
@@ -92,7 +97,8 @@ fn row_tight(model: &Model, x: &Fracs, y: &Fracs, i: u32) -> Result<(), CheckSto
     need(4, stands_at(limit?, sum))
 }
 
-/// Condition 4: the sum of each row is at the limit that its multiplier needs.
+/// Condition 4: the sum of each row is at its lower limit for a multiplier above 0, at its upper limit for one below 0.
+/// Else the condition fails, unless an operation is past 127 bits.
 pub(crate) fn rows_tight(model: &Model, x: &Fracs, y: &Fracs) -> Result<(), CheckStop>
     requires point { length x.now ≡ width model.now }
     requires multipliers { length y.now ≡ height model.now }

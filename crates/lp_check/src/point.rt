@@ -9,7 +9,8 @@ use crate::steps::{at_least, at_most, part, plus_product};
 use lp_frac::{Frac, Fracs, add, zero};
 use lp_model::{Model, lower_limit, upper_limit};
 
-// Condition 1 at column `j`: its value is within its bounds.
+// Condition 1 at column `j`: its value is within its bounds. Else the condition fails, unless a comparison is past 127
+// bits.
 fn column_within(model: &Model, x: &Fracs, j: u32) -> Result<(), CheckStop>
     requires inside { j < width model.now }
     requires point { length x.now ≡ width model.now }
@@ -21,7 +22,8 @@ fn column_within(model: &Model, x: &Fracs, j: u32) -> Result<(), CheckStop>
     at_most(1, column.upper, value)
 }
 
-/// Condition 1: the value of each column is within its bounds.
+/// Condition 1: the value of each column is within its bounds. Else the condition fails, unless a comparison is past
+/// 127 bits.
 pub(crate) fn columns_within(model: &Model, x: &Fracs) -> Result<(), CheckStop>
     requires { length x.now ≡ width model.now }
     ensures { result ≡ run.columns_run (Some number_limit) model.now x.now }
@@ -32,7 +34,8 @@ pub(crate) fn columns_within(model: &Model, x: &Fracs) -> Result<(), CheckStop>
     Ok(())
 }
 
-/// The activity of row `i`: its coefficients times the values of their columns.
+/// The activity of row `i` at the point: the sum of its coefficients times the values of their columns. Refused where
+/// an operation is past 127 bits.
 pub(crate) fn activity(model: &Model, x: &Fracs, i: u32) -> Result<Frac, CheckStop>
     requires inside { i < height model.now }
     requires point { length x.now ≡ width model.now }
@@ -45,7 +48,8 @@ pub(crate) fn activity(model: &Model, x: &Fracs, i: u32) -> Result<Frac, CheckSt
     Ok(sum)
 }
 
-// Condition 2 at row `i`: its activity is within its limits.
+// Condition 2 at row `i`: its activity at the point is within its limits. Else the condition fails, unless an operation
+// is past 127 bits.
 fn row_within(model: &Model, x: &Fracs, i: u32) -> Result<(), CheckStop>
     requires inside { i < height model.now }
     requires point { length x.now ≡ width model.now }
@@ -57,7 +61,8 @@ fn row_within(model: &Model, x: &Fracs, i: u32) -> Result<(), CheckStop>
     at_most(2, upper_limit(row)?, sum)
 }
 
-/// Condition 2: the activity of each row is within its limits.
+/// Condition 2: the activity of each row at the point is within its limits. Else the condition fails, unless an
+/// operation is past 127 bits.
 pub(crate) fn rows_within(model: &Model, x: &Fracs) -> Result<(), CheckStop>
     requires { length x.now ≡ width model.now }
     ensures { result ≡ run.rows_run (Some number_limit) model.now x.now }
@@ -68,7 +73,8 @@ pub(crate) fn rows_within(model: &Model, x: &Fracs) -> Result<(), CheckStop>
     Ok(())
 }
 
-/// The sum of the costs times the values of their columns.
+/// The sum of the costs times the values of their columns, without the offset. Refused where an operation is past 127
+/// bits.
 pub(crate) fn cost(model: &Model, x: &Fracs) -> Result<Frac, CheckStop>
     requires { length x.now ≡ width model.now }
     ensures { result ≡ run.cost_run (Some number_limit) model.now x.now }
@@ -80,7 +86,8 @@ pub(crate) fn cost(model: &Model, x: &Fracs) -> Result<Frac, CheckStop>
     Ok(sum)
 }
 
-/// The value of the objective at the point: its cost and the offset.
+/// The value of the objective at the point: the sum of the costs times the values, plus the offset. Refused where an
+/// operation is past 127 bits.
 pub(crate) fn value(model: &Model, x: &Fracs) -> Result<Frac, CheckStop>
     requires { length x.now ≡ width model.now }
     ensures { result ≡ run.value_run (Some number_limit) model.now x.now }

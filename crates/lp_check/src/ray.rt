@@ -31,7 +31,8 @@ fn not_above(limit: Option<Frac>, r: Frac) -> bool
     }
 }
 
-// Condition 3 at column `j`: its bounds allow the ray.
+// Condition 3 at column `j`: the ray's number for it is not below 0 if it has a lower bound, and not above 0 if it has
+// an upper one. Else the condition fails.
 fn column_allows(model: &Model, r: &Fracs, j: u32) -> Result<(), CheckStop>
     requires inside { j < width model.now }
     requires ray { length r.now ≡ width model.now }
@@ -43,7 +44,8 @@ fn column_allows(model: &Model, r: &Fracs, j: u32) -> Result<(), CheckStop>
     need(3, not_above(column.upper, value))
 }
 
-/// Condition 3: the bounds of each column allow the ray.
+/// Condition 3: the ray's number for each column is not below 0 if the column has a lower bound, and not above 0 if it
+/// has an upper one. Else the condition fails.
 pub(crate) fn columns_allow(model: &Model, r: &Fracs) -> Result<(), CheckStop>
     requires { length r.now ≡ width model.now }
     ensures { result ≡ run.each (width model.now) (run.column_allows_run model.now r.now) }
@@ -54,7 +56,8 @@ pub(crate) fn columns_allow(model: &Model, r: &Fracs) -> Result<(), CheckStop>
     Ok(())
 }
 
-// Condition 4 at row `i`: its limits allow the ray.
+// Condition 4 at row `i`: its sum over the ray is not below 0 if it has a lower limit, and not above 0 if it has an
+// upper one. Else the condition fails. Refused where an operation is past 127 bits.
 fn row_allows(model: &Model, r: &Fracs, i: u32) -> Result<(), CheckStop>
     requires inside { i < height model.now }
     requires ray { length r.now ≡ width model.now }
@@ -66,7 +69,8 @@ fn row_allows(model: &Model, r: &Fracs, i: u32) -> Result<(), CheckStop>
     need(4, not_above(upper_limit(row)?, sum))
 }
 
-/// Condition 4: the limits of each row allow the ray.
+/// Condition 4: the sum of each row over the ray is not below 0 if the row has a lower limit, and not above 0 if it has
+/// an upper one. Else the condition fails. Refused where an operation is past 127 bits.
 pub(crate) fn rows_allow(model: &Model, r: &Fracs) -> Result<(), CheckStop>
     requires { length r.now ≡ width model.now }
     ensures { result ≡ run.each (height model.now) (run.row_allows_run (Some number_limit) model.now r.now) }
@@ -77,7 +81,8 @@ pub(crate) fn rows_allow(model: &Model, r: &Fracs) -> Result<(), CheckStop>
     Ok(())
 }
 
-/// Condition 5: the objective improves along the ray.
+/// Condition 5: the objective improves along the ray, whose cost is below 0 for `min` and above 0 for `max`. Else the
+/// condition fails. Refused where an operation is past 127 bits.
 pub(crate) fn better(model: &Model, r: &Fracs) -> Result<(), CheckStop>
     requires { length r.now ≡ width model.now }
     ensures { result ≡ run.better_run (Some number_limit) model.now r.now }

@@ -16,7 +16,7 @@ pub fn part(z: &Fracs, k: u32) -> Frac
     z.at(k as usize)
 }
 
-/// `s` with the product `v * w` added.
+/// `s` with the product `v * w` added. Refused where an operation is past 127 bits.
 pub(crate) fn plus_product(v: Frac, w: Frac, s: Frac) -> Result<Frac, CheckStop>
     ensures { result ≡ run.plus_product (Some number_limit) v w s }
 {
@@ -24,7 +24,7 @@ pub(crate) fn plus_product(v: Frac, w: Frac, s: Frac) -> Result<Frac, CheckStop>
     Ok(sum)
 }
 
-/// `s` with the product `v * w` taken off.
+/// `s` with the product `v * w` taken off. Refused where an operation is past 127 bits.
 pub(crate) fn less_product(v: Frac, w: Frac, s: Frac) -> Result<Frac, CheckStop>
     ensures { result ≡ run.less_product (Some number_limit) v w s }
 {
@@ -32,7 +32,7 @@ pub(crate) fn less_product(v: Frac, w: Frac, s: Frac) -> Result<Frac, CheckStop>
     Ok(rest)
 }
 
-/// Condition `n`: `v` is at least the limit, if there is one.
+/// Condition `n` fails unless `v` is at least the limit, or there is none. Refused where comparing is past 127 bits.
 pub(crate) fn at_least(n: u32, limit: Option<Frac>, v: Frac) -> Result<(), CheckStop>
     ensures { result ≡ run.at_least n (Some number_limit) limit v }
 {
@@ -45,7 +45,7 @@ pub(crate) fn at_least(n: u32, limit: Option<Frac>, v: Frac) -> Result<(), Check
     }
 }
 
-/// Condition `n`: `v` is at most the limit, if there is one.
+/// Condition `n` fails unless `v` is at most the limit, or there is none. Refused where comparing is past 127 bits.
 pub(crate) fn at_most(n: u32, limit: Option<Frac>, v: Frac) -> Result<(), CheckStop>
     ensures { result ≡ run.at_most n (Some number_limit) limit v }
 {

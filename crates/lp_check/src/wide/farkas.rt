@@ -16,7 +16,7 @@ use lp_model::Model;
 use lp_ratio::{Ratio, common_denominator, multiples};
 use std::alloc::{AllocError, Global};
 
-// `s` with `d` times the limit added, or none where the condition needs a limit and there is none.
+// `s` with `d` times the limit added; none where there is no limit.
 fn weighed_at(
     alloc: Global,
     d: &Ratio,
@@ -34,7 +34,8 @@ fn weighed_at(
     }
 }
 
-// `sum` with what row `i` asks for added: its multiplier times the limit that the multiplier's sign needs.
+// `sum` with what row `i` asks for added: its multiplier times its lower limit for a multiplier above 0, or its upper
+// limit for one below 0. None where the row lacks that limit.
 fn row_asks(
     alloc: Global,
     model: &Model,
@@ -59,7 +60,8 @@ fn row_asks(
     }
 }
 
-// Condition 1: the sum of what all rows ask for, none where a row lacks the limit that its multiplier needs.
+// The sum of what all rows ask for: each multiplier times the lower limit if it is above 0, the upper one if it is
+// below 0. None where a row lacks that limit.
 fn rows_ask(alloc: Global, model: &Model, y: &Ratios) -> Result<Option<Ratio>, AllocError>
     requires { length y.now ≡ height model.now }
     ensures { IfOk result (λ o. run.rows_ask_run None model.now y.now ≡ ok_or o (stop.No 1)) }
@@ -74,8 +76,8 @@ fn rows_ask(alloc: Global, model: &Model, y: &Ratios) -> Result<Option<Ratio>, A
     Ok(Some(sum))
 }
 
-// `sum` with the most that column `j` gives added: the multipliers' part in it times the bound that the part's sign
-// needs.
+// `sum` with the most that column `j` gives added: the multipliers' part in it times its upper bound for a part above
+// 0, or its lower bound for one below 0. None where the column lacks that bound.
 fn column_gives(
     alloc: Global,
     model: &Model,
@@ -100,7 +102,8 @@ fn column_gives(
     }
 }
 
-// Condition 2: the most that all columns give, none where a column lacks the bound that it needs.
+// The most that all columns give: the multipliers' part in each times its upper bound if the part is above 0, its lower
+// bound if it is below 0. None where a column lacks that bound.
 fn columns_give(alloc: Global, model: &Model, y: &Ratios) -> Result<Option<Ratio>, AllocError>
     requires { length y.now ≡ height model.now }
     ensures { IfOk result (λ o. run.columns_give_run None model.now y.now ≡ ok_or o (stop.No 2)) }
@@ -115,8 +118,8 @@ fn columns_give(alloc: Global, model: &Model, y: &Ratios) -> Result<Option<Ratio
     Ok(Some(sum))
 }
 
-// The verdict on Farkas multipliers, by the three conditions: infeasible where the columns give less than the rows ask
-// for.
+// The verdict on Farkas multipliers: infeasible where the columns give less than the rows ask for; else the number of
+// the first of the three conditions that fails.
 fn judged(alloc: Global, model: &Model, y: &Ratios) -> Result<Verdict, AllocError>
     requires { length y.now ≡ height model.now }
     ensures { IfOk result (Says model.now (Infeasible y.now)) }
@@ -137,7 +140,8 @@ fn judged(alloc: Global, model: &Model, y: &Ratios) -> Result<Verdict, AllocErro
     }
 }
 
-/// The verdict on Farkas multipliers. Each is first multiplied by their common denominator, which keeps the verdict.
+/// The verdict on Farkas multipliers: that no point is feasible, or the first condition that fails. Each multiplier is
+/// first taken as many times as `common_denominator` gives, which keeps the verdict.
 pub(crate) fn infeasible(alloc: Global, model: &Model, y: &Ratios) -> Result<Verdict, AllocError>
     requires { length y.now ≡ height model.now }
     ensures { IfOk result (Says model.now (Infeasible y.now)) }
@@ -147,7 +151,7 @@ pub(crate) fn infeasible(alloc: Global, model: &Model, y: &Ratios) -> Result<Ver
     judged(alloc, model, &numbers)
 }
 
-// Condition 1: both bounds are there, and the lower one is above the upper one.
+// Condition 1 of a clash: whether both bounds are there, and the lower one is above the upper one.
 fn is_crossed(alloc: Global, lower: Option<Ratio>, upper: Option<Ratio>) -> Result<bool, AllocError>
     ensures { IfOk result (λ b. run.crossed_run None lower upper ≡ run.need 1 b) }
 {
@@ -163,7 +167,8 @@ fn is_crossed(alloc: Global, lower: Option<Ratio>, upper: Option<Ratio>) -> Resu
     }
 }
 
-/// The verdict on the claim that the bounds of column `j` clash.
+/// The verdict on the claim that the bounds of column `j` clash: infeasible if the lower one is above the upper one,
+/// else that condition 1 fails.
 pub(crate) fn clash(alloc: Global, model: &Model, j: u32) -> Result<Verdict, AllocError>
     requires { j < width model.now }
     ensures { IfOk result (Says model.now (Clash j)) }

@@ -9,7 +9,7 @@ use lp_model::{Row, RowLimit, lower_of, upper_of};
 use lp_ratio::Ratio;
 use std::alloc::{AllocError, Global};
 
-/// A column's bound, if there is one.
+/// A column's bound as a fraction of any width, if there is one.
 pub fn limit_of(alloc: Global, bound: Option<Frac>) -> Result<Option<Ratio>, AllocError>
     ensures { IfOk result (λ l. l ≡ bound) }
 {
@@ -38,7 +38,7 @@ fn difference(alloc: Global, v: Frac, w: Frac) -> Result<Ratio, AllocError>
     sum(alloc, v, neg(w))
 }
 
-// The number that the operation gives, at any width, none where the limit is absent.
+// The number that a limit of a row comes to, exactly, of any width; none where the limit is absent.
 fn taken(alloc: Global, limit: RowLimit) -> Result<Option<Ratio>, AllocError>
     ensures { IfOk result (λ l. l ≡ model.limit_of limit) }
 {
@@ -56,7 +56,7 @@ fn taken(alloc: Global, limit: RowLimit) -> Result<Option<Ratio>, AllocError>
     }
 }
 
-/// The least that the row's sum may be, if there is one.
+/// The least that the row's sum may be, of any width; none where there is no limit.
 pub fn lower_limit(alloc: Global, row: &Row) -> Result<Option<Ratio>, AllocError>
     ensures { IfOk result (λ l. run.lower_run None row.now ≡ Ok l) }
 {
@@ -64,7 +64,7 @@ pub fn lower_limit(alloc: Global, row: &Row) -> Result<Option<Ratio>, AllocError
     Ok(limit)
 }
 
-/// The most that the row's sum may be, if there is one.
+/// The most that the row's sum may be, of any width; none where there is no limit.
 pub fn upper_limit(alloc: Global, row: &Row) -> Result<Option<Ratio>, AllocError>
     ensures { IfOk result (λ l. run.upper_run None row.now ≡ Ok l) }
 {

@@ -11,7 +11,8 @@ use lp_model::{Column, Model};
 use lp_ratio::Ratio;
 use std::alloc::{AllocError, Global};
 
-// Whether `value` is at the column's bound that a reduced cost of this sign needs.
+// Whether `value` is at the column's lower bound where the reduced cost is above 0, and at its upper bound where that
+// is below 0. True for a reduced cost of 0.
 fn is_tight(
     alloc: Global,
     column: &Column,
@@ -31,7 +32,8 @@ fn is_tight(
     }
 }
 
-// Condition 3 at column `j`: whether its value is at the bound that its reduced cost needs.
+// Condition 3 at column `j`: whether its value is at its lower bound for a reduced cost above 0, and at its upper bound
+// for one below 0.
 fn column_tight(
     alloc: Global,
     model: &Model,
@@ -47,7 +49,8 @@ fn column_tight(
     Ok(tight)
 }
 
-/// Condition 3: whether the value of each column is at the bound that its reduced cost needs.
+/// Condition 3: whether the value of each column is at its lower bound for a reduced cost above 0, and at its upper
+/// bound for one below 0.
 pub(crate) fn columns_tight(
     alloc: Global,
     model: &Model,
@@ -67,7 +70,8 @@ pub(crate) fn columns_tight(
     Ok(true)
 }
 
-// Condition 4 at row `i`: whether its sum is at the limit that its multiplier needs.
+// Condition 4 at row `i`: whether its sum is at its lower limit for a multiplier above 0, and at its upper limit for
+// one below 0.
 fn row_tight(
     alloc: Global,
     model: &Model,
@@ -92,7 +96,8 @@ fn row_tight(
     }
 }
 
-/// Condition 4: whether the sum of each row is at the limit that its multiplier needs.
+/// Condition 4: whether the sum of each row is at its lower limit for a multiplier above 0, and at its upper limit for
+/// one below 0.
 pub(crate) fn rows_tight(
     alloc: Global,
     model: &Model,

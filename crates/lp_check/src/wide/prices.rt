@@ -17,7 +17,7 @@ use lp_natural::Natural;
 use lp_ratio::{Ratio, common_denominator, multiples};
 use std::alloc::{AllocError, Global};
 
-// The sum of a column's coefficients times the numbers of their rows.
+// The sum of a column's coefficients, each times the number that `y` has for its row.
 fn weighed_sum(alloc: Global, entries: &[(u32, Frac)], y: &[Ratio]) -> Result<Ratio, AllocError>
     requires { AreEntries (length y.now) entries.now }
     ensures { IfOk result (λ s. s ≡ sum_below (length y.now) (λ i. part_of y.now i *ℚ entry_of entries.now i)) }
@@ -29,7 +29,7 @@ fn weighed_sum(alloc: Global, entries: &[(u32, Frac)], y: &[Ratio]) -> Result<Ra
     Ok(sum)
 }
 
-/// The multipliers' part in column `j`: its coefficients times the multipliers of their rows.
+/// The multipliers' part in column `j`: the sum of its coefficients times the multipliers of their rows.
 #[tactic(auto, using(crate::proofs::Scaled::priced_is))]
 pub(crate) fn priced(alloc: Global, model: &Model, y: &[Ratio], j: u32) -> Result<Ratio, AllocError>
     requires inside { j < width model.now }
@@ -41,7 +41,8 @@ pub(crate) fn priced(alloc: Global, model: &Model, y: &[Ratio], j: u32) -> Resul
     Ok(sum)
 }
 
-// The reduced cost of column `j`. `numbers` are the multipliers, each multiplied by `times`.
+// The reduced cost of column `j`: its cost, negated for `max`, less the multipliers' part in it. `numbers` are the
+// multipliers, each multiplied by `times`; the result is not.
 fn reduced_over(
     alloc: Global,
     model: &Model,
@@ -62,7 +63,8 @@ fn reduced_over(
     rest.divided(alloc, times)
 }
 
-// The reduced costs of all columns. `numbers` are the multipliers, each multiplied by `times`.
+// The reduced costs of all columns: each cost, negated for `max`, less the multipliers' part in the column. `numbers`
+// are the multipliers, each multiplied by `times`; the results are not.
 fn all_reduced(
     alloc: Global,
     model: &Model,
@@ -82,8 +84,8 @@ fn all_reduced(
     Ok(Items::from_vec(out))
 }
 
-/// The reduced costs of all columns, by one walk over the entries of the model: each cost, as one to be minimized, less
-/// the multipliers' part.
+/// The reduced costs of all columns, by one walk over the entries of the model: each cost, negated for `max`, less the
+/// multipliers' part.
 pub fn reduced_costs(alloc: Global, model: &Model, y: &Ratios) -> Result<Ratios, AllocError>
     requires { length y.now ≡ height model.now }
     ensures len { IfOk result (λ r. length r ≡ width model.now) }

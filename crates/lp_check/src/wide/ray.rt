@@ -54,7 +54,8 @@ fn is_not_above(limit: &Option<Ratio>, r: &Ratio) -> bool
     }
 }
 
-// Condition 3 at column `j`: whether its bounds allow the ray.
+// Condition 3 at column `j`: whether the ray's number for it is not below 0 if it has a lower bound, and not above 0 if
+// it has an upper one.
 fn column_allows(model: &Model, r: &Ratios, j: u32) -> bool
     requires inside { j < width model.now }
     requires ray { length r.now ≡ width model.now }
@@ -65,7 +66,8 @@ fn column_allows(model: &Model, r: &Ratios, j: u32) -> bool
     not_below(&column.lower, value) && not_above(&column.upper, value)
 }
 
-/// Condition 3: whether the bounds of all columns allow the ray.
+/// Condition 3: whether the ray's number for each column is not below 0 if the column has a lower bound, and not above
+/// 0 if it has an upper one.
 pub(crate) fn columns_allow(model: &Model, r: &Ratios) -> bool
     requires { length r.now ≡ width model.now }
     ensures { run.each (width model.now) (run.column_allows_run model.now r.now) ≡ run.need 3 result }
@@ -78,7 +80,8 @@ pub(crate) fn columns_allow(model: &Model, r: &Ratios) -> bool
     true
 }
 
-// Condition 4 at row `i`: whether its limits allow a ray with this sum.
+// Condition 4 at row `i`: whether its sum over the ray is not below 0 if it has a lower limit, and not above 0 if it
+// has an upper one.
 fn row_allows(alloc: Global, model: &Model, i: u32, sum: &Ratio) -> Result<bool, AllocError>
     requires { i < height model.now }
     ensures { IfOk result (λ b. given.row_allows model.now i sum.now ≡ run.need 4 b) }
@@ -92,7 +95,8 @@ fn row_allows(alloc: Global, model: &Model, i: u32, sum: &Ratio) -> Result<bool,
     Ok(is_not_above(&upper, sum))
 }
 
-/// Condition 4: whether the limits of all rows allow a ray with these sums.
+/// Condition 4: whether the sum of each row over the ray is not below 0 if the row has a lower limit, and not above 0
+/// if it has an upper one.
 pub(crate) fn rows_allow(alloc: Global, model: &Model, sums: &Ratios) -> Result<bool, AllocError>
     requires { length sums.now ≡ height model.now }
     ensures { IfOk result (λ b. run.each (height model.now) (λ i. given.row_allows model.now i (part_of sums.now i))

@@ -29,7 +29,7 @@ pub(crate) fn plus_wide_product(
     Ok(sum)
 }
 
-// `v` is at least the limit, if there is one.
+// Whether `v` is at least the limit; true where there is none.
 pub(crate) fn is_at_least(
     alloc: Global,
     limit: Option<Ratio>,
@@ -46,7 +46,7 @@ pub(crate) fn is_at_least(
     }
 }
 
-// `v` is at most the limit, if there is one.
+// Whether `v` is at most the limit; true where there is none.
 pub(crate) fn is_at_most(alloc: Global, limit: Option<Ratio>, v: &Ratio) -> Result<bool, AllocError>
     ensures { IfOk result (λ b. (n : ℕ) → run.at_most n None limit v.now ≡ run.need n b) }
 {
@@ -59,7 +59,7 @@ pub(crate) fn is_at_most(alloc: Global, limit: Option<Ratio>, v: &Ratio) -> Resu
     }
 }
 
-/// The limit is there, and `v` is at it.
+/// Whether there is a limit and `v` equals it.
 pub fn stands_at(alloc: Global, limit: Option<Ratio>, v: &Ratio) -> Result<bool, AllocError>
     ensures { IfOk result (λ b. b ≡ run.stands_at limit v.now) }
 {

@@ -24,6 +24,7 @@ pub struct Evaluation {
 }
 
 impl Drop for Evaluation {
+    // Drops the sums and the cost, and gives their memory back.
     fn drop(self) {
         let Evaluation { sums, cost } = self;
         drop(sums);
@@ -61,7 +62,7 @@ fn add_column(
     Ok(())
 }
 
-// The sum of each row: its coefficients times the numbers of their columns.
+// The sum of each row: its coefficients times the numbers of their columns, added up.
 fn sums_of(alloc: Global, model: &Model, numbers: &[Ratio]) -> Result<Vec<Ratio>, AllocError>
     requires { length numbers.now ≡ width model.now }
     ensures { IfOk result (λ r. AreSums model.now numbers.now r.items) }
@@ -73,7 +74,7 @@ fn sums_of(alloc: Global, model: &Model, numbers: &[Ratio]) -> Result<Vec<Ratio>
     Ok(sums)
 }
 
-// The sum of the costs times the numbers of their columns.
+// The sum of the costs times the numbers of their columns, without the offset.
 fn cost_sum(alloc: Global, model: &Model, numbers: &[Ratio]) -> Result<Ratio, AllocError>
     requires { length numbers.now ≡ width model.now }
     ensures { IfOk result (λ r. r ≡ cost_of model.now numbers.now) }
@@ -85,7 +86,7 @@ fn cost_sum(alloc: Global, model: &Model, numbers: &[Ratio]) -> Result<Ratio, Al
     Ok(sum)
 }
 
-// Each number divided by the same one.
+// Each number of a list divided by `by`, in their order.
 fn all_divided(alloc: Global, list: &[Ratio], by: &Natural) -> Result<Ratios, AllocError>
     requires { 0 < by.now }
     ensures len { IfOk result (λ r. length r ≡ length list.now) }
@@ -99,7 +100,7 @@ fn all_divided(alloc: Global, list: &[Ratio], by: &Natural) -> Result<Ratios, Al
     Ok(Items::from_vec(out))
 }
 
-// The sum of each row, divided by the same number.
+// The sum of each row, its coefficients times the numbers of their columns, divided by `by`.
 fn divided_sums(
     alloc: Global,
     model: &Model,
@@ -116,7 +117,7 @@ fn divided_sums(
     all_divided(alloc, &sums, by)
 }
 
-// The sum of the costs, divided by a number.
+// The sum of the costs times the numbers of their columns, divided by `by`.
 fn divided_cost(
     alloc: Global,
     model: &Model,

@@ -6,6 +6,6 @@ use Rattle.spec_exact.specs.Narrow.{number_limit}
 use Rattle.spec_check.specs.Run as run
 use Rattle.lp_check.proofs.farkas.rows_ask.Given as goal
 
--- what the rows so far ask for
+-- the sum is what the first i rows ask for
 abbrev pub invariant-loop-i : goal.invariant-loop-i
 invariant-loop-i l = steps l.i (run.row_asks_run (Some number_limit) l.model l.y) 0ℚ ≡ Ok l.sum

@@ -4,6 +4,6 @@ use Rattle.spec_exact.specs.Narrow.{number_limit}
 use Rattle.spec_check.specs.Run as run
 use Rattle.lp_check.proofs.point.columns_within.Given as goal
 
--- the columns so far are within their bounds
+-- the values of the first j columns are within their bounds
 abbrev pub invariant-loop-j : goal.invariant-loop-j
 invariant-loop-j l = run.each l.j (run.column_within_run (Some number_limit) l.model l.x) ≡ Ok tt

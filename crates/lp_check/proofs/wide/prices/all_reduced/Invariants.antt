@@ -6,6 +6,7 @@ use Rattle.spec_check.specs.Checks.{signed, priced}
 use Rattle.lp_ratio.specs.Multiple.{multiple}
 use Rattle.lp_check.proofs.wide.prices.all_reduced.Given as goal
 
+-- the list has the reduced costs of the first j columns
 abbrev pub invariant-loop-j : goal.invariant-loop-j
 invariant-loop-j l =
     (length l.out.items ≡ l.j)

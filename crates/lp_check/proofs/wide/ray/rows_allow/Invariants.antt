@@ -5,6 +5,6 @@ use Rattle.spec_check.specs.Run as run
 use Rattle.lp_check.specs.Sums as given
 use Rattle.lp_check.proofs.wide.ray.rows_allow.Given as goal
 
--- the rows so far allow the ray
+-- the limits of the first i rows allow a ray with these sums
 abbrev pub invariant-loop-i : goal.invariant-loop-i
 invariant-loop-i l = run.each l.i (λ i. given.row_allows l.model i (part l.sums i)) ≡ Ok tt

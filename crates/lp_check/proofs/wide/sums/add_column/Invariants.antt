@@ -4,6 +4,7 @@ use Rattle.spec_exact.specs.Fraction.{◌+ℚ◌, ◌*ℚ◌}
 use Rattle.spec_model.specs.Model.{entry_of, part}
 use Rattle.lp_check.proofs.wide.sums.add_column.Given as goal
 
+-- the sums so far, with what the entries still to come add to their rows, are the old sums with what all entries add
 abbrev pub invariant-loop-entry : goal.invariant-loop-entry
 invariant-loop-entry l =
     (length l.sums.items ≡ length l.fn.sums.items)
