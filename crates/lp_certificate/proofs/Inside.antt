@@ -8,6 +8,7 @@ use Rattle.spec_check.specs.declared.certificate.Letter.TheVariants.{X, Y, R}
 use Rattle.spec_check.specs.Certificate.{IsFor}
 use Rattle.lp_certificate.specs.Answer.{IsPlace, IsInside}
 
+-- where a certificate fits the model, the number of a column, or for y of a row, is a place in its list for the letter
 pub inside : {F : Type 0} (m : Model) (letter : Letter) (k : ℕ) (cert : Certificate (List F)) → IsFor m cert → IsPlace m letter k →
     IsInside letter k cert
 inside m X k (Optimal x y) f h = omega (arith, f.0, h)

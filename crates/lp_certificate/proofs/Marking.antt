@@ -69,6 +69,7 @@ all_true a true c e f = e
 all_true a false c e f = e ∙ sym f
 
 module _ {F : Type 0} where
+  -- where no part was put, notes that are all false say which names the parts give a number
   pub none_marked : (m : Model) (ps : List (PartOf F)) (a b c : ℕ) (g : Given) → ps ≡ [] → g.x ≡ replicate a false →
       g.y ≡ replicate b false → g.r ≡ replicate c false → AreMarks m ps g
   none_marked m ps a b c g n e f h X name k p =
@@ -79,6 +80,7 @@ module _ {F : Type 0} where
       ap (λ z. get_or z k false) h ∙ none_at c k ∙ sym (ap (λ qs. is_given R name qs) n)
 
   -- ---- one part more
+  -- one of the parts with one more passes a test exactly where one of the parts or the new one does
   any_more : (f : PartOf F → Bool) (ps : List (PartOf F)) (p : PartOf F) →
       list_any f (ps ++ p ∷ []) ≡ (list_any f ps || f p)
   any_more f [] p = last (f p)
@@ -92,7 +94,8 @@ module _ {F : Type 0} where
       assoc true b c = refl
       assoc false b c = refl
 
-  -- the mark of one list at a place, where a part gives another place of the same letter, or this one
+  -- where the marks of a letter say which names the parts give a number, they do with one more part with this letter
+  -- once its place is marked
   marked : (m : Model) (letter : Letter) (marks : List Bool) (before : List (PartOf F)) (p : PartOf F) (j : ℕ) →
       same_letter p.letter letter ≡ true → place_of m letter p.name ≡ Some j → j < length marks →
       ((name : Name) (k : ℕ) → place_of m letter name ≡ Some k → get_or marks k false ≡ is_given letter name before) →
@@ -119,6 +122,7 @@ module _ {F : Type 0} where
           apart true s = absurd (o (sym (one_place m letter p.name name j k e f (same_true p.name name s))))
           apart false s = refl
 
+  -- a part with one letter does not change which names have a number with another letter
   unmarked : (letter other : Letter) (marks : List Bool) (before : List (PartOf F)) (p : PartOf F) (name : Name) (k : ℕ) →
       p.letter ≡ other → same_letter other letter ≡ false → get_or marks k false ≡ is_given letter name before →
       get_or marks k false ≡ is_given letter name (before ++ p ∷ [])
@@ -127,6 +131,7 @@ module _ {F : Type 0} where
       (ap (λ b. b && same p.name name) (ap (λ a. same_letter a letter) e ∙ l))
       ∙ sym (any_more (λ q. same_letter q.letter letter && same q.name name) before p)
 
+  -- where the notes say which names the parts give a number, they do with one more part once its place is noted
   pub mark_more : (m : Model) (before : List (PartOf F)) (p : PartOf F) (j : ℕ) (g : Given) →
       place_of m p.letter p.name ≡ Some j → j < length (marks_of p.letter g) → AreMarks m before g →
       AreMarks m (before ++ p ∷ []) (with_mark p.letter j g)

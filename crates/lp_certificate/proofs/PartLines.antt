@@ -6,12 +6,13 @@ use Rattle.spec_check.specs.declared.certificate.Letter.{Letter}
 use Rattle.spec_certificate.specs.TextWritten.{Writing, part_text_by, part_lines_by}
 
 module _ {F : Type 0} (write : Writing F) (letter : Letter) (name : Name) (v : F) where
-  -- a number that is 0 has none
+  -- a number that is 0 has no line, so the lines stay
   pub no_line : (lines : List (List ℕ)) (none : Bool) → none ≡ write.is_none v → none ≡ true →
       lines ≡ lines ++ part_lines_by write letter name v
   no_line lines none e h =
       sym (ap (λ b. lines ++ cond b [] (part_text_by write letter name v ∷ [])) (sym e ∙ h) ∙ append-nil lines)
 
+  -- a number that is not 0 has one line, which goes behind the lines
   pub one_line : (lines after : List (List ℕ)) (text : List ℕ) (none : Bool) → none ≡ write.is_none v →
       none ≡ false → after ≡ lines ++ text ∷ [] → text ≡ part_text_by write letter name v →
       after ≡ lines ++ part_lines_by write letter name v

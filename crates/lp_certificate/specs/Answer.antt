@@ -11,26 +11,27 @@ use Rattle.lp_certificate.specs.Letters.{count_of}
 use Rattle.lp_certificate.specs.declared.settled.SettleError.{SettleError}
 use Rattle.lp_certificate.specs.declared.settled.SettleError.TheVariants.{Fault, NoMemory}
 
--- the fault is the one that the answer has; that there is no memory says nothing of the answer
+-- the answer is the fault with which the code fails; of a failure for lack of memory nothing is asked
 abbrev pub IsErrorOf : {A : Type 0} → Settled A → SettleError → Type 0
 IsErrorOf answer (Fault fault) = answer ≡ Err fault
 IsErrorOf answer NoMemory = Unit {0}
 
--- the answer's certificate, or its fault
+-- the answer is what the code gives: this certificate, or this fault; of a failure for lack of memory nothing is asked
 abbrev pub Settles : {F : Type 0} → Settled (Certificate (List F)) → Result (Certificate (List F)) SettleError → Type 0
 Settles answer (Ok cert) = answer ≡ Ok cert
 Settles answer (Err error) = IsErrorOf answer error
 
--- the answer's certificate after a step, or its fault
+-- where the code is done, the answer is the certificate `after`; where it fails, the answer is its fault; of a failure
+-- for lack of memory nothing is asked
 abbrev pub Puts : {F : Type 0} → Settled (Certificate (List F)) → Certificate (List F) → Result ⊤ SettleError → Type 0
 Puts answer after (Ok done) = answer ≡ Ok after
 Puts answer after (Err error) = IsErrorOf answer error
 
--- a place among the columns, or for `y` among the rows
+-- k is the number of a column of the model, or for the letter y of a row
 abbrev pub IsPlace : Model → Letter → ℕ → Type 0
 IsPlace m letter k = k < count_of m letter
 
--- a place in the certificate's list of the letter, if it has one
+-- k is a place in the certificate's list for this letter; where it has no such list, nothing is asked
 abbrev pub IsInside : {F : Type 0} → Letter → ℕ → Certificate (List F) → Type 0
 IsInside X k (Optimal x y) = k < length x
 IsInside Y k (Optimal x y) = k < length y
@@ -39,12 +40,12 @@ IsInside X k (Unbounded x r) = k < length x
 IsInside R k (Unbounded x r) = k < length r
 IsInside letter k cert = Unit {0}
 
--- the fault says that no column or row has this name
+-- the fault says that no column or row has this name; of a failure for lack of memory nothing is asked
 abbrev pub IsUnknown : Name → SettleError → Type 0
 IsUnknown name (Fault fault) = fault ≡ UnknownName name
 IsUnknown name NoMemory = Unit {0}
 
--- the fault says that this name was given a number before
+-- the fault says that this name was given a number before; of a failure for lack of memory nothing is asked
 abbrev pub IsRepeated : Name → SettleError → Type 0
 IsRepeated name (Fault fault) = fault ≡ Repeated name
 IsRepeated name NoMemory = Unit {0}

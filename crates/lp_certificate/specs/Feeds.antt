@@ -7,18 +7,19 @@ use Rattle.lp_base.specs.declared.feed.Feed.{Feed}
 use Rattle.lp_base.specs.declared.feed.Feed.TheVariants as feed
 use Rattle.lp_certificate.specs.CertificateRead.{CertificateRead}
 
--- the text continues after line n
+-- line n leads to what was read with it, and the reader `new` has that, and n lines
 pub record GoesOn {F : Type 0} (outcome : OutcomeOf F) (n : ℕ) (new : CertificateRead F) : Type 0 where
   pub raw : RawOf F
   pub state : outcome ≡ progress.More raw
   pub kept : new ≡ record { raw = Some raw; lines = n }
 
--- line n does not fit
+-- line n does not fit, and the number that is given is n
 pub record IsUnfit {F : Type 0} (outcome : OutcomeOf F) (n line : ℕ) : Type 0 where
   pub state : outcome ≡ progress.Unfit
   pub number : line ≡ n
 
--- the answer at line n of what its step leads to; if memory runs out it says nothing
+-- The code's answer to line n fits its outcome: more is wanted, and the reader is `new`; or the certificate; or line n
+-- does not fit. Of an answer for lack of memory nothing is asked.
 abbrev pub Feeds : {F : Type 0} → OutcomeOf F → ℕ → CertificateRead F → Feed (RawOf F) ℕ → Type 0
 Feeds outcome n new feed.More = GoesOn outcome n new
 Feeds outcome n new (feed.Done raw) = outcome ≡ progress.Done raw

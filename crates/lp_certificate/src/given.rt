@@ -17,6 +17,7 @@ pub(crate) struct Given {
 }
 
 impl Drop for Given {
+    // Drops the notes of all three letters, and gives their memory back.
     fn drop(self) {
         let Given { x, y, r } = self;
         drop(x);
@@ -46,7 +47,7 @@ impl Given {
         Ok(Given { x, y, r })
     }
 
-    /// Whether the column, or for `y` the row, at `k` was given a number.
+    /// Whether the column, or for `y` the row, at `k` was given a number with this letter.
     pub(crate) fn has(&self, letter: Letter, k: u32) -> bool
         requires { k < length (marks_of letter self.now) }
         ensures { result ≡ get_or (marks_of letter self.now) k false }
@@ -58,7 +59,7 @@ impl Given {
         }
     }
 
-    /// Notes that the column, or for `y` the row, at `k` was given a number.
+    /// Notes that the column, or for `y` the row, at `k` was given a number with this letter.
     pub(crate) fn mark(&mut self, letter: Letter, k: u32)
         requires { k < length (marks_of letter self.old) }
         ensures { self.new ≡ with_mark letter k self.old }

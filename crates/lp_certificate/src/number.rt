@@ -16,7 +16,7 @@ pub trait Number: Drop {
     // how one is written
     ghost writing: { Writing Self };
 
-    /// The number that a text is, if it is one.
+    /// The number that a text is; none if it is none of this kind.
     fn read(alloc: Global, text: &[u8]) -> Result<Option<Self>, AllocError>
         ensures { IfOk result (λ value. value ≡ reading text.now) };
 

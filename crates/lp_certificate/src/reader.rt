@@ -31,7 +31,8 @@ impl<N> Model for ReaderOf<N> {
     ghost view = { λ r. record { raw = r.raw; lines = r.lines } };
 }
 
-// Reads the words of a first line, which say the certificate's kind.
+// What the words of a first line lead to: a certificate of the kind that they say, without parts; where they say none,
+// the line does not fit.
 fn open<N: Drop>(alloc: Global, words: &Texts) -> Result<Progress<RawOf<N>>, AllocError>
     ensures { IfOk result (λ progress. progress ≡ certificate.opened (certificate.kind_of words.now)) }
 {
@@ -44,7 +45,8 @@ fn open<N: Drop>(alloc: Global, words: &Texts) -> Result<Progress<RawOf<N>>, All
     }
 }
 
-// Adds the part that the words of a line say. The result says whether they say one.
+// Adds the part that the words of a line say to the certificate that was read so far. Says whether they say one; if
+// not, nothing is added.
 fn add_part<N: Number>(alloc: Global, raw: &mut RawOf<N>, words: &Texts) -> Result<bool, AllocError>
     ensures { IfOk result (λ is_part. (if is_part then More raw.new else Unfit)
         ≡ certificate.with_part raw.old (certificate.part_by N.reading raw.old.kind words.now)) }
@@ -58,7 +60,8 @@ fn add_part<N: Number>(alloc: Global, raw: &mut RawOf<N>, words: &Texts) -> Resu
     }
 }
 
-// Reads the words of a line after the first: a part, or the end of the text.
+// What the words of a line after the first lead to: the end of the certificate at `END`; else the certificate with one
+// more part; where they say none, the line does not fit.
 fn go_on<N: Number>(
     alloc: Global,
     mut raw: RawOf<N>,
@@ -82,7 +85,8 @@ fn go_on<N: Number>(
     }
 }
 
-// Reads a line. What was read before it is taken out of `so_far`, unless the line is too long or the input's end.
+// Reads a line, with what was read before it, which is taken out of `so_far`. A line that is too long, or the end of
+// what may be read, does not fit, and leaves `so_far`.
 #[tactic(auto, unfolding(spec_certificate::specs::Text::step_by))]
 fn advance<N: Number>(
     alloc: Global,
@@ -104,6 +108,7 @@ fn advance<N: Number>(
 }
 
 impl<N: Drop> Drop for ReaderOf<N> {
+    // Drops what was read so far, and gives its memory back.
     fn drop(self) {
         let ReaderOf { raw, lines: _ } = self;
         drop(raw);
@@ -123,7 +128,8 @@ impl<N> ReaderOf<N> {
 }
 
 impl<N: Number> ReaderOf<N> {
-    /// Takes the next line. One that does not fit is refused by its number.
+    /// Takes the next line. Gives the certificate at its end, and `More` where it goes on. A line that does not fit is
+    /// refused by its number. Where memory runs out, it says so.
     pub fn feed(&mut self, alloc: Global, line: &Line) -> Feed<RawOf<N>, u32>
         requires { self.old.lines < 2 ^ 32 - 1 }
         ensures { Feeds (certificate.step_by N.reading self.old.raw line.now) (self.old.lines + 1) self.new result }

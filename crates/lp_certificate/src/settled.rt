@@ -29,6 +29,7 @@ pub enum SettleError {
 impl From<AllocError> for SettleError {
     ghost from_gives = { λ _ e. e ≡ NoMemory };
 
+    // The error that there is no memory for a certificate.
     fn from(_: AllocError) -> Self {
         SettleError::NoMemory
     }
@@ -79,7 +80,8 @@ fn two_zeros<N: Number>(
     Ok((first, second))
 }
 
-// The certificate of this kind in which all numbers are 0.
+// The certificate of this kind in which all numbers are 0, or of the clash of the column that the kind names. That no
+// column has this name is an error.
 #[tactic(auto, unfolding(spec_check::specs::Settle::blank))]
 fn blank<N: Number>(
     alloc: Global,
@@ -111,7 +113,7 @@ fn blank<N: Number>(
     }
 }
 
-// The place of the column with this name, or for `y` of the row.
+// The number of the column with this name, or for `y` of the row, counted from 0; none if nothing has the name.
 fn place_of(model: &Model, letter: Letter, name: &[u8]) -> Option<u32>
     ensures value { result ≡ settling.place_of model.now letter name.now }
     ensures inside { IfSome result (IsPlace model.now letter) }
@@ -138,7 +140,8 @@ fn set<N: Drop>(cert: &mut CertificateOf<N>, letter: Letter, k: u32, value: N)
     }
 }
 
-// Sets the number that the part gives, and notes that it was given. A number that was given before is an error.
+// Sets the number of the certificate that the part gives, and notes that it was given. An unknown name, or a number
+// that was given before, is an error, and the certificate stays.
 #[tactic(auto, unfolding(spec_check::specs::Settle::put))]
 fn put<N: Number>(
     alloc: Global,
@@ -168,7 +171,8 @@ fn put<N: Number>(
     Ok(())
 }
 
-// Sets the numbers that all parts give, in turn.
+// Sets the numbers of the certificate that all parts give, in turn. The first unknown name, or number that was given
+// before, is an error.
 fn put_all<N: Number>(
     alloc: Global,
     model: &Model,

@@ -12,7 +12,7 @@ use lp_model::Model;
 use spec_check::{Certificate, Letter};
 use std::alloc::{AllocError, Global};
 
-// The word of a letter.
+// The word of a letter: `x`, `y` or `r`.
 fn letter_text(letter: Letter) -> &'static [u8]
     ensures { result.now ≡ text_written.letter_text letter }
 {
@@ -31,7 +31,7 @@ fn add_word(text: &mut Bytes, word: &[u8]) -> Result<(), AllocError>
     text.extend(word)
 }
 
-// Adds the text of a part.
+// Adds to a text what a part's line says: its letter, the name and the number.
 fn add_part_text<N: Number>(
     alloc: Global,
     letter: Letter,
@@ -86,7 +86,7 @@ fn name_at(model: &Model, letter: Letter, k: u32) -> &[u8]
     }
 }
 
-// The number at place `k` of the list.
+// The number at place `k` of the list, counted from 0.
 fn number_at<N: Number>(values: &Items<N>, k: u32) -> &N
     requires { k < length values.now }
     ensures { result.now ≡ get_or values.now k N.writing.none }
@@ -94,7 +94,7 @@ fn number_at<N: Number>(values: &Items<N>, k: u32) -> &N
     values.get(k as usize)
 }
 
-// Adds to the lines those of all numbers with this letter.
+// Adds to the lines one for each number of the list with this letter that is not 0, in the order of the model.
 fn add_values<N: Number>(
     alloc: Global,
     model: &Model,
@@ -112,7 +112,7 @@ fn add_values<N: Number>(
     Ok(())
 }
 
-// Adds to a text the words that say the certificate's kind.
+// Adds to a text the words that say the certificate's kind, for a clash with the column's name.
 fn add_kind_text<N>(
     model: &Model,
     cert: &CertificateOf<N>,
@@ -132,7 +132,7 @@ fn add_kind_text<N>(
     }
 }
 
-// Adds to the lines those of all numbers of the certificate.
+// Adds to the lines one for each number of the certificate that is not 0.
 fn add_parts<N: Number>(
     alloc: Global,
     model: &Model,

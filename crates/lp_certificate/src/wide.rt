@@ -21,7 +21,7 @@ impl Number for Ratio {
 
     ghost writing = { wide_writing };
 
-    // The number of any width that the text is, if it is one.
+    // The number of any width that the text is, if it is one, and its exponent is not too large.
     fn read(alloc: Global, text: &[u8]) -> Result<Option<Ratio>, AllocError> {
         number_of(alloc, text)
     }
@@ -48,7 +48,7 @@ impl Number for Ratio {
     }
 }
 
-// The number of any width that the text is, or none where it is no number.
+// The number of any width that the text is, or none where it is no number, or its exponent is too large.
 #[tactic(auto, using(crate::proofs::ReadNumbers::wide_ok, crate::proofs::ReadNumbers::wide_shape, crate::proofs::ReadNumbers::wide_far))]
 fn number_of(alloc: Global, text: &[u8]) -> Result<Option<Ratio>, AllocError>
     ensures { IfOk result (λ value. value ≡ wide_reading.wide text.now) }

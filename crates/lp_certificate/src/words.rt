@@ -8,9 +8,10 @@ use lp_base::{Name, Texts, are_same, by_word, look_up};
 use spec_check::{Letter, Part};
 use std::alloc::{AllocError, Global};
 
+/// The words of the letters, each with its letter.
 const LETTERS: [(&[u8], Letter); 3] = [(b"x", Letter::X), (b"y", Letter::Y), (b"r", Letter::R)];
 
-// The letter that the word is.
+// The letter that the word is: `x`, `y` or `r`; none for another word.
 #[tactic(auto, unfolding(spec_certificate::specs::Text::letter_of))]
 fn letter_of(word: &[u8]) -> Option<Letter>
     ensures { result ≡ certificate.letter_of word.now }
@@ -18,7 +19,8 @@ fn letter_of(word: &[u8]) -> Option<Letter>
     look_up(word, &LETTERS)
 }
 
-// Whether a certificate of this kind has numbers with this letter.
+// Whether a certificate of this kind may have numbers with this letter: an optimal one `x` and `y`, an infeasible one
+// `y`, an unbounded one `x` and `r`, a clash none.
 fn takes(kind: &CertificateKind, letter: Letter) -> bool
     ensures { result ≡ certificate.takes kind.now letter }
 {
@@ -30,7 +32,7 @@ fn takes(kind: &CertificateKind, letter: Letter) -> bool
     }
 }
 
-// The kind of certificate that a line of this one word begins, if it begins one.
+// The kind of certificate that a first line of this one word says; none for another word.
 #[tactic(auto, unfolding(spec_certificate::specs::Text::kind_of))]
 fn kind_by_word(word: &[u8]) -> Option<CertificateKind>
     ensures { result ≡ certificate.kind_of (word.now ∷ []) }
@@ -43,7 +45,7 @@ fn kind_by_word(word: &[u8]) -> Option<CertificateKind>
     })
 }
 
-/// The kind that the words of a first line say, or none.
+/// The kind that the words of a first line say: one word, or `CLASH` and a name; none for other words.
 #[tactic(auto, unfolding(spec_certificate::specs::Text::kind_of))]
 pub(crate) fn kind_of(alloc: Global, words: &Texts) -> Result<Option<CertificateKind>, AllocError>
     ensures { IfOk result (λ kind. kind ≡ certificate.kind_of words.now) }
@@ -58,7 +60,7 @@ pub(crate) fn kind_of(alloc: Global, words: &Texts) -> Result<Option<Certificate
     }
 }
 
-/// The part that the words of a line say, or none where a certificate of this kind has no such part.
+/// The part that the words of a line say, a letter, a name and a number; none where they say none that this kind takes.
 #[tactic(auto, unfolding(spec_certificate::specs::Text::part_by))]
 pub(crate) fn part_of<N: Number>(
     alloc: Global,
@@ -87,7 +89,7 @@ pub(crate) fn part_of<N: Number>(
     }))
 }
 
-/// Whether these words end a text of a certificate.
+/// Whether these words end a text of a certificate: they are `END` alone.
 #[tactic(auto, unfolding(spec_certificate::specs::Text::is_end))]
 pub fn is_end(words: &Texts) -> bool
     ensures { result ≡ certificate.is_end words.now }

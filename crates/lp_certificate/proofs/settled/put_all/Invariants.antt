@@ -5,7 +5,8 @@ use Rattle.lp_certificate.specs.Marks.{HasMarks, AreMarks}
 use Rattle.lp_certificate.proofs.PartPlaces.{IsOnTheWay}
 use Rattle.lp_certificate.proofs.settled.put_all.Given as goal
 
--- the parts so far are marked, and those that are left give what all of them give
+-- The parts that were passed are noted as given. The parts from i on, put to the certificate so far, give what all of
+-- them give from the first one on. The certificate still fits the model.
 abbrev pub invariant-loop-i : goal.invariant-loop-i
 invariant-loop-i g l = record {
   fits : IsFor l.model l.cert;
