@@ -61,11 +61,12 @@ module _ (m : Model) (limits : List (Option ℚ × Option ℚ)) (rows cols : ℕ
     (d : lower ≡ map (λ c. c.lower) m.columns ++ map (λ l. l.0) limits)
     (e : upper ≡ map (λ c. c.upper) m.columns ++ map (λ l. l.1) limits)
     (f : cost ≡ map (λ c. least_cost m.sense c.cost) m.columns ++ replicate (height m) 0ℚ) where
+  -- the parts that the code has made are together the form of the model with these limits
   pub parts_are : record { rows = rows; cols = cols; entries = entries; lower = lower; upper = upper; cost = cost }
       ≡ formed m limits
   parts_are = cc
 
-  -- the bounds of the columns and of the rows
+  -- a list of the bounds of all columns and the limits of all rows is as long as columns and rows together
   bounds_length : (of_column : ExactColumn → Option ℚ) (of_row : Option ℚ × Option ℚ → Option ℚ)
       (xs : List (Option ℚ)) → xs ≡ map of_column m.columns ++ map of_row limits → length limits ≡ height m →
       length xs ≡ cols + rows
@@ -81,6 +82,7 @@ module _ (m : Model) (limits : List (Option ℚ × Option ℚ)) (rows cols : ℕ
         g,
       )
 
+  -- the parts that the code has made are a form within the large limits
   pub is_form : length limits ≡ height m → rows ≤ 65536 → cols ≤ 131072 → All (AreEntries (height m)) entries →
       IsFormWithin large_limits (record { rows = rows; cols = cols; entries = entries; lower = lower; upper = upper; cost = cost })
   is_form g h i k =
@@ -120,9 +122,11 @@ usual_form m f usual made within =
 
 -- ---- the form, or why there is none
 module _ (limit : Option ℕ) (m : Model) where
+  -- how the form comes of the limits of the rows: the first clash of bounds is the fault, else there is the form
   abbrev after_limits : List (Option ℚ × Option ℚ) → Result Form (FormFault ℚ)
   after_limits limits = steps (width m) (λ j _. column_clash limit m j) tt >>= λ _. Ok (formed m limits)
 
+  -- where the limits of the rows are refused, that is why the model has no form
   pub limits_stop : (s : Stop Clash) → IsStopOf (list_run (height m) (λ i. limits_run limit (row m i))) s →
       IsFaultOf (form_of limit m) s
   unfolding form_of
@@ -132,19 +136,23 @@ module _ (limit : Option ℕ) (m : Model) where
 
   module _ (limits : List (Option ℚ × Option ℚ))
       (r : list_run (height m) (λ i. limits_run limit (row m i)) ≡ Ok limits) where
+    -- where the limits of all rows are taken, the model's form is that after these limits
     from_limits : form_of limit m ≡ after_limits limits
     unfolding form_of
     from_limits = ap (λ o. refused_as fault.Past o >>= λ limits. after_limits limits) r
 
+    -- where the limits are taken and the bounds of a column clash or are refused, that is why the model has no form
     clash_stops : (f : FormFault ℚ) → steps (width m) (λ j _. column_clash limit m j) tt ≡ Err f →
         form_of limit m ≡ Err f
     clash_stops f h = from_limits ∙ ap (λ o. o >>= λ _. Ok (formed m limits)) h
 
+    -- where the limits are taken, the first clash or refusal of the columns' bounds is the code's reason for no form
     pub clash_is : (f : FormFault ℚ) → steps (width m) (λ j _. column_clash limit m j) tt ≡ Err f →
         IsFaultOf (form_of limit m) (stop_of f)
     clash_is (fault.Clash j) h = clash_stops (fault.Clash j) h
     clash_is (fault.Past p) h = clash_stops (fault.Past p) h
 
+    -- where the limits are taken and no bounds clash, the form of the parts is the model's form
     pub form_is : (f : Form) → steps (width m) (λ j _. column_clash limit m j) tt ≡ Ok tt → f ≡ formed m limits →
         form_of limit m ≡ Ok f
     form_is f h e = from_limits ∙ ap (λ o. o >>= λ _. Ok (formed m limits)) h ∙ ap Ok (sym e)

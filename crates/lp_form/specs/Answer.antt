@@ -8,13 +8,14 @@ use Rattle.lp_frac.specs.declared.stop.Stop.{Stop}
 use Rattle.lp_form.specs.declared.fault.Clash.{Clash}
 use Rattle.lp_frac.specs.declared.stop.Stop.TheVariants.{Cause, Past, NoMemory}
 
--- the run gives no form, for the reason of this stop; or memory ran out
+-- the stated run ends without a form for the code's reason: the clash of this column, or the operation that is past the
+-- limit; of a stop for lack of memory nothing is asked
 abbrev pub IsFaultOf : {A : Type 0} → Result A (FormFault ℚ) → Stop Clash → Type 0
 IsFaultOf run (Cause clash) = run ≡ Err (fault.Clash clash.column)
 IsFaultOf run (Past p) = run ≡ Err (fault.Past p)
 IsFaultOf run NoMemory = ⊤
 
--- the run is refused by the operation of this stop; or memory ran out
+-- the stated run is refused for the same operation as the code; of a stop for lack of memory nothing is asked
 abbrev pub IsStopOf : {A : Type 0} → Run A → Stop Clash → Type 0
 IsStopOf run (Cause clash) = ⊥
 IsStopOf run (Past p) = run ≡ Err p

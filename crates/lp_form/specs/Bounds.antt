@@ -6,7 +6,8 @@ use Rattle.spec_exact.specs.Run.{list_run}
 use Rattle.spec_exact.specs.Narrow.{number_limit}
 use Rattle.spec_simplex.specs.Form.{limits_run}
 
--- the bounds of all columns of a model, and behind them the limits of its first n rows
+-- the two lists are the lower and the upper bounds of all columns of a model,
+-- and behind them the limits of its first n rows
 pub record AreBounds (m : Model) (n : ℕ) (lower upper : List (Option ℚ)) : Type 0 where
   pub limits : List (Option ℚ × Option ℚ)
   pub taken : list_run n (λ i. limits_run (Some number_limit) (row m i)) ≡ Ok limits

@@ -6,7 +6,7 @@ use Rattle.lp_frac.specs.declared.stop.Stop.{Stop}
 use Rattle.lp_form.specs.declared.fault.Clash.{Clash}
 use Rattle.lp_frac.specs.declared.stop.Stop.TheVariants.{Cause, Past}
 
--- the fault of a definition as a stop of the code
+-- why a model has no form, as a stop of the code: the clash of a column as its cause, or the operation that was refused
 abbrev pub stop_of : FormFault ℚ → Stop Clash
 stop_of (fault.Clash j) = Cause (record { column = j })
 stop_of (fault.Past p) = Past p

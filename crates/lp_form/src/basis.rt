@@ -28,6 +28,7 @@ impl Model for Basis {
 }
 
 impl Drop for Basis {
+    // Drops the statuses, and gives their memory back.
     fn drop(self) {
         let Basis { statuses, rows: _ } = self;
         drop(statuses);

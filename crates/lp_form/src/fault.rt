@@ -17,7 +17,7 @@ pub struct Clash {
 /// Why a model has no form.
 pub type FormStop = Stop<Clash>;
 
-/// The fault as a stop of the code, which may also run out of memory.
+/// The fault of a model's form as a stop of the code: a clash as its cause, or the operation that was refused.
 pub(crate) fn stop_of(fault: FormFault) -> FormStop
     ensures { result ≡ stop_of fault }
 {

@@ -20,7 +20,7 @@ fn can_stand(form: &LargeForm, k: u32, status: Status) -> bool
     }
 }
 
-// Whether each column may have its status.
+// Whether each column has a status that it may have by its bounds.
 fn all_stand(form: &LargeForm, basis: &[Status]) -> bool
     requires { length basis.now ≡ form.now.cols + form.now.rows }
     ensures { IsTrue result ↔ ((k : ℕ) → k < form.now.cols + form.now.rows →
@@ -34,7 +34,7 @@ fn all_stand(form: &LargeForm, basis: &[Status]) -> bool
     true
 }
 
-// How many of the first `columns` columns are basic.
+// How many of the first `columns` statuses are those of basic columns.
 fn count_basic(basis: &[Status], columns: u32) -> u32
     requires { length basis.now ≡ columns }
     ensures { result ≡ basics_below basis.now columns }
@@ -48,7 +48,8 @@ fn count_basic(basis: &[Status], columns: u32) -> u32
     count
 }
 
-/// Whether these are the statuses of a basis of the form.
+/// Whether these are the statuses of a basis of the form: one for each column, which suits its bounds, and as many
+/// basic ones as there are rows.
 pub fn is_basis(form: &LargeForm, basis: &[Status]) -> bool
     ensures { IsTrue result ↔ IsBasisOf form.now basis.now }
 {

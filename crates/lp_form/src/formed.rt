@@ -53,7 +53,7 @@ fn rest_is_zero(words: &BasisWords, columns: u32) -> bool
     true
 }
 
-/// Whether the words are those of some basis of some form.
+/// Whether the words are those of some basis of some form of at most 256 rows and 512 structural columns.
 pub fn well_formed(words: &BasisWords) -> bool
     ensures { IsTrue result ↔ IsWellFormed words.now }
 {

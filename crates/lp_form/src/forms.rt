@@ -57,7 +57,7 @@ impl Form {
         self.form.cols()
     }
 
-    /// The logical column of row `i`.
+    /// The number of the logical column of row `i`.
     pub fn logical(&self, i: u32) -> u32
         requires { i < self.now.rows }
         ensures value { result ≡ self.now.cols + i }
@@ -66,7 +66,7 @@ impl Form {
         self.form.logical(i)
     }
 
-    /// The coefficient of structural column `j` in row `i`.
+    /// The coefficient of structural column `j` in row `i`; 0 where there is no entry.
     pub fn entry(&self, i: u32, j: u32) -> Frac
         requires i_in_range { i < self.now.rows }
         requires j_in_range { j < self.now.cols }
@@ -84,7 +84,7 @@ impl Form {
         self.form.entries(j)
     }
 
-    /// The lower bound of structural or logical column `k`.
+    /// The lower bound of structural or logical column `k`; none where it is absent.
     pub fn lower(&self, k: u32) -> Option<Frac>
         requires { k < self.now.cols + self.now.rows }
         ensures { result ≡ form_lower self.now k }
@@ -92,7 +92,7 @@ impl Form {
         self.form.lower(k)
     }
 
-    /// The upper bound of structural or logical column `k`.
+    /// The upper bound of structural or logical column `k`; none where it is absent.
     pub fn upper(&self, k: u32) -> Option<Frac>
         requires { k < self.now.cols + self.now.rows }
         ensures { result ≡ form_upper self.now k }
@@ -100,7 +100,7 @@ impl Form {
         self.form.upper(k)
     }
 
-    /// The cost of each structural and then each logical column.
+    /// The cost, to be made least, of each structural and then each logical column.
     pub fn costs(&self) -> &[Frac]
         ensures { result.now ≡ self.now.cost }
     {

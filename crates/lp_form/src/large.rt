@@ -48,6 +48,7 @@ impl Model for LargeForm {
 }
 
 impl Drop for LargeForm {
+    // Drops the lists of the form, and gives their memory back.
     fn drop(self) {
         let LargeForm {
             rows: _,
@@ -120,7 +121,7 @@ impl LargeForm {
         self.cols
     }
 
-    /// The logical column of row `i`.
+    /// The number of the logical column of row `i`.
     pub fn logical(&self, i: u32) -> u32
         requires { i < self.now.rows }
         ensures value { result ≡ self.now.cols + i }
@@ -129,7 +130,7 @@ impl LargeForm {
         self.cols + i
     }
 
-    /// The coefficient of structural column `j` in row `i`.
+    /// The coefficient of structural column `j` in row `i`; 0 where there is no entry.
     #[tactic(auto, using(std::proofs::lemmas::Option::get_or_from_slice_get))]
     pub fn entry(&self, i: u32, j: u32) -> Frac
         requires i_in_range { i < self.now.rows }
@@ -149,7 +150,7 @@ impl LargeForm {
         self.entries.get(j as usize).as_slice()
     }
 
-    /// The lower bound of structural or logical column `k`.
+    /// The lower bound of structural or logical column `k`; none where it is absent.
     #[tactic(auto, using(std::proofs::lemmas::Option::get_or_from_slice_get))]
     pub fn lower(&self, k: u32) -> Option<Frac>
         requires { k < self.now.cols + self.now.rows }
@@ -158,7 +159,7 @@ impl LargeForm {
         self.lower.at(k as usize)
     }
 
-    /// The upper bound of structural or logical column `k`.
+    /// The upper bound of structural or logical column `k`; none where it is absent.
     #[tactic(auto, using(std::proofs::lemmas::Option::get_or_from_slice_get))]
     pub fn upper(&self, k: u32) -> Option<Frac>
         requires { k < self.now.cols + self.now.rows }
@@ -167,7 +168,7 @@ impl LargeForm {
         self.upper.at(k as usize)
     }
 
-    /// The cost of each structural and then each logical column.
+    /// The cost, to be made least, of each structural and then each logical column.
     pub fn costs(&self) -> &[Frac]
         ensures { result.now ≡ self.now.cost }
     {
@@ -189,7 +190,7 @@ impl LargeForm {
     }
 }
 
-// The coefficient in row `i`, which is 0 where the row has no entry.
+// The coefficient that a column's entries give row `i`; 0 where the row has no entry.
 fn entry_at(entries: &[(u32, Frac)], i: u32) -> Frac
     ensures { result ≡ entry_of entries.now i }
 {

@@ -15,7 +15,7 @@ pub(crate) enum Coded<'a> {
     Statuses(&'a Basis),
 }
 
-// The two bits of column `c`.
+// The two bits of column `c`: of its bounds in a form, or of its status in a basis.
 fn code(columns: &Coded, c: u32) -> u64
     ensures value { result ≡ code_of columns.now c }
     ensures small { result < 4 }
@@ -26,7 +26,7 @@ fn code(columns: &Coded, c: u32) -> u64
     }
 }
 
-// The word that holds the bits of the 32 columns from column `first` on.
+// The word that holds the bits of the 32 columns from column `first` on, the first one's in the lowest bits.
 fn word_of(columns: &Coded, first: u32) -> u64
     requires { first ≤ 1000 }
     ensures { result ≡ word_from (code_of columns.now) first 32 }
@@ -52,7 +52,8 @@ pub fn shape(form: &Form) -> ShapeWords
     words
 }
 
-/// The words of the basis, which has a status for each column of the form.
+/// The words of the basis, which has a status for each column of the form: the form's shape, and then the bits of the
+/// statuses.
 pub fn pack(form: &Form, basis: &Basis) -> BasisWords
     requires { length basis.now ≡ form.now.cols + form.now.rows }
     ensures { result ≡ packed form.now basis.now }

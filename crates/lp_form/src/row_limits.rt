@@ -9,7 +9,7 @@ use std::cmp::Ordering;
 
 type FormFault = spec_simplex::FormFault<Frac>;
 
-/// The lower and the upper limit of the row's sum, at 127 bits.
+/// The lower and the upper limit of the row's sum, each of which may be absent. Refused where one is past 127 bits.
 pub fn limits(row: &Row) -> Result<(Option<Frac>, Option<Frac>), Past>
     ensures { result ≡ forms.limits_run (Some number_limit) row.now }
 {
@@ -18,7 +18,8 @@ pub fn limits(row: &Row) -> Result<(Option<Frac>, Option<Frac>), Past>
     Ok((lower, upper))
 }
 
-/// The fault that the bounds of column `j` clash, where the lower one is above the upper one.
+/// The fault of column `j`: its lower bound is above its upper one, or the two can't be compared in 127 bits. `Ok` if
+/// neither, or if a bound is absent.
 pub(crate) fn clash(j: u32, lower: Option<Frac>, upper: Option<Frac>) -> Result<(), FormFault>
     ensures { result ≡ forms.bounds_clash (Some number_limit) j lower upper }
 {

@@ -35,7 +35,8 @@ fn push_bounds(
     Ok(())
 }
 
-// Adds the bounds of all columns and then the limits of all rows to both lists. A limit past 127 bits stops it.
+// Fills both empty lists with the bounds of all columns and then the limits of all rows. The first limit that is past
+// 127 bits is the fault, or memory that is refused before.
 fn fill_bounds(model: &Model, lower: &mut BoundList, upper: &mut BoundList) -> Result<(), FormStop>
     requires lower { lower.old ≡ [] }
     requires upper { upper.old ≡ [] }
@@ -54,7 +55,8 @@ fn fill_bounds(model: &Model, lower: &mut BoundList, upper: &mut BoundList) -> R
     Ok(())
 }
 
-// The first column whose bounds clash, as the fault, or `Ok` where none do.
+// The fault of the first column whose bounds clash, or whose bounds can't be compared in 127 bits; `Ok` if there is
+// none.
 fn first_clash(model: &Model) -> Result<(), FormFault>
     ensures { result ≡ steps (width model.now) (λ j _. forms.column_clash (Some number_limit) model.now j) tt }
 {
@@ -105,7 +107,7 @@ fn costs(alloc: Global, model: &Model) -> Result<Fracs, AllocError>
 
 /// The form of the model: its columns, and a logical column for each row. The limits of the rows are
 /// taken first, in order, then the bounds of the columns are compared, in order; the first refused
-/// operation, or the first clash, is why there is none.
+/// operation, the first clash, or memory that is refused, is why there is none.
 pub fn large_form(alloc: Global, model: &Model) -> Result<LargeForm, FormStop>
     ensures ok { IfOk result (λ f. forms.form_of (Some number_limit) model.now ≡ Ok f) }
     ensures kept { IfOk result (λ f. forms.IsFormWithin large_limits f) }
@@ -122,7 +124,8 @@ pub fn large_form(alloc: Global, model: &Model) -> Result<LargeForm, FormStop>
     Ok(LargeForm::new(model.rows(), model.cols(), entries, lower, upper, cost))
 }
 
-/// The form of a usual model, of which tableaus can be made.
+/// The form of a usual model, of which tableaus can be made; or why it has none: a refused operation, a clash, or
+/// memory that is refused.
 pub fn form(alloc: Global, model: &Model) -> Result<Form, FormStop>
     requires { IsUsual model.now }
     ensures ok { IfOk result (λ f. forms.form_of (Some number_limit) model.now ≡ Ok f) }

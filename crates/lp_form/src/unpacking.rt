@@ -7,7 +7,7 @@ use crate::codes::{cols_of, rows_of, status_at};
 use spec_board::BasisWords;
 use std::alloc::{AllocError, Global};
 
-/// The basis in these words.
+/// The basis in these words: the status of each structural and then each logical column.
 #[tactic(auto, unfolding(spec_board::specs::Words::unpacked))]
 pub fn unpack(alloc: Global, words: &BasisWords) -> Result<Basis, AllocError>
     requires { IsWellFormed words.now }

@@ -5,7 +5,7 @@ use Rattle.spec_model.specs.Model.{height}
 use Rattle.spec_model.specs.Kept.{AreEntries}
 use Rattle.lp_form.proofs.standard.entries.Given as goal
 
--- the columns so far are there, and stand in order
+-- the lists of entries are those of the first j columns, each in order and of rows of the model
 abbrev pub invariant-loop-j : goal.invariant-loop-j
 invariant-loop-j l = record {
   items : l.entries ≡ map (λ c. c.entries) (take l.j l.model.columns);
