@@ -1,7 +1,8 @@
 -- The numbers below a bound that pass a test, in order.
 --
--- `chosen_yes`: where k passes the test, those below k with k behind them are those below k + 1.
--- `chosen_no`: where k fails the test, those below k are those below k + 1.
+-- `chosen_yes`: where k passes the test, the numbers chosen below k by it, with k behind them, are those chosen below
+--   k + 1.
+-- `chosen_no`: where k fails the test, the numbers chosen below k by it are those chosen below k + 1.
 -- `chosen_inside`: the numbers chosen below n are below any m of at least n.
 use Rattle.std.proofs.Common.{◌≡◌, ℕ, zero, suc, ◌+◌, ◌<◌, ◌≤◌, Bool, true, false, cond, List, [], ◌∷◌, ◌++◌, All}
 use Rattle.std.proofs.Common.{sym, ap, subst, ◌∙◌, arith}

@@ -8,7 +8,7 @@ use Rattle.spec_bas.specs.Steps.{State, status_of, marked_basis}
 use Rattle.lp_form.specs.Count.{basics}
 use Rattle.lp_form.proofs.Counted.{basics_are_rows}
 
--- as many as the form has rows
+-- the statuses after what was read of a file have as many basic columns as the form has rows, where they are a basis
 pub basics_marked : (f : Form) (s : State) (k : ℕ) (statuses : List Status) → statuses ≡ made k (status_of f s) →
     k ≡ f.cols + f.rows → IsBasisOf f (marked_basis f s) → basics statuses ≡ f.rows
 unfolding marked_basis

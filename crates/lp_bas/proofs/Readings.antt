@@ -7,6 +7,7 @@ use Rattle.spec_mps.specs.Fields.{Fields, CardReading, Is, Misplaced, free_field
 use Rattle.spec_bas.specs.declared.card.Reading.TheVariants.{Skipped}
 use Rattle.spec_bas.specs.Cards.{ExactReading, card_of, data_reading, section_reading, text_reading}
 
+-- the texts of texts that were numbered as fields are these texts
 texts_numbered : (n : ℕ) (ws : List (List ℕ)) → texts_of (numbered_from n ws) ≡ ws
 texts_numbered n [] = refl
 texts_numbered n (w ∷ ws) = ap (λ vs. w ∷ vs) (texts_numbered (n + 1) ws)
@@ -47,20 +48,24 @@ module _ (bytes : List ℕ) where
   misplaced_by false true column h = cc
   misplaced_by false false column h = cc
 
+  -- a line that free form skips is skipped in a basis file
   pub skip_reading : free_fields bytes ≡ Is Skip → text_reading bytes ≡ Skipped
   unfolding free_fields text_reading
   skip_reading h = skip_by (is_skipped bytes) (begins_with_blank bytes) h
 
+  -- a line that is a heading in free form is read in a basis file as a heading with these words
   pub section_is : (fields : Fields) → free_fields bytes ≡ Is (Section fields) →
       text_reading bytes ≡ section_reading (texts_of fields)
   unfolding free_fields text_reading
   section_is fields h = section_by (is_skipped bytes) (begins_with_blank bytes) fields h
 
+  -- a line that is a data card in free form is read in a basis file as the card that its words say
   pub given_is : (fields : Fields) → free_fields bytes ≡ Is (Given fields) →
       text_reading bytes ≡ data_reading (card_of (texts_of fields))
   unfolding free_fields text_reading
   given_is fields h = given_by (is_skipped bytes) (begins_with_blank bytes) fields h
 
+  -- in free form no byte of a line is misplaced
   pub none_misplaced : (column : ℕ) → free_fields bytes ≡ Misplaced column → ⊥
   unfolding free_fields
   none_misplaced column h = misplaced_by (is_skipped bytes) (begins_with_blank bytes) column h

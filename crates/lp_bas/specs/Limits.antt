@@ -6,7 +6,7 @@ use Rattle.spec_bas.specs.Steps.{lower_first, upper_first}
 use Rattle.lp_bas.specs.declared.statuses.Limit.{Limit}
 use Rattle.lp_bas.specs.declared.statuses.Limit.TheVariants.{Lower, Upper}
 
--- at the limit, or at the other one where the row has no such limit, or at 0
+-- the status of a row's logical that is to be at this limit: there if the row has it, else at the other one, else at 0
 abbrev pub status_at : Limit → Form → ℕ → Status
 status_at Lower f = lower_first f
 status_at Upper f = upper_first f

@@ -10,12 +10,14 @@ use Rattle.spec_bas.specs.Steps.{State, Check, need, must, is_marked, mark, lowe
 use Rattle.lp_bas.specs.declared.marks.Stands.{Stands}
 use Rattle.lp_bas.specs.declared.marks.Stands.TheVariants as stands
 
--- column j gets the status, which an upper bound that is absent refuses
+-- the state in which column j has this status, at its upper bound or its usual one; a fault where it is to be at an
+-- upper bound that it lacks
 abbrev pub put_step : Stands → Form → State → ℕ → Check State
 put_step stands.AtUpper f s j = must (is_some (form_upper f j)) code.NoUpperBound >>= λ _. Ok (mark j AtUpper s)
 put_step stands.Usual f s j = Ok (mark j (lower_first f j) s)
 
--- the column with a name gets the status, unless a card gave it one before
+-- the state after a card that gives a named column this status; a fault where the name is unknown, the column has a
+-- status from an earlier card, or is to be at an upper bound that it lacks
 abbrev pub single_step : Stands → Model → Form → State → Name → Check State
 single_step to m f s column =
     need (column_place m column) code.UnknownColumn >>= λ j.

@@ -27,6 +27,7 @@ impl From<AllocError> for StepFault {
 
     ghost from_gives = { λ _ fault. fault ≡ stop.NoMemory };
 
+    /// The fault for memory that was refused: `NoMemory`.
     fn from(_: AllocError) -> Self {
         StepFault::NoMemory
     }
@@ -37,6 +38,7 @@ impl From<BasCode> for StepFault {
 
     ghost from_gives = { λ code fault. fault ≡ stop.Wrong code };
 
+    /// The fault of a line that is wrong by this code.
     fn from(code: BasCode) -> Self {
         StepFault::Wrong(code)
     }
@@ -94,7 +96,8 @@ impl Marks {
         self.items[k as usize] = Some(status);
     }
 
-    // Reads the card `NAME`, which stands before all other cards.
+    // Reads the card `NAME`: notes that a card was read. Where one was read before, it is the fault `Section`, and
+    // nothing changes.
     fn name(&mut self) -> Result<(), BasCode>
         ensures { IsStep (file.named_step self.old) self.old self.new result }
     {
@@ -105,8 +108,8 @@ impl Marks {
         Ok(())
     }
 
-    // Reads a card of a column and a row: the column is basic, and the row is at this limit, or at the other one where
-    // it has no such limit.
+    // Reads a card of a column and a row: the column is basic, and the row is at this limit, else at the other one,
+    // else at 0. An unknown name, or one that an earlier card has, is a fault, and nothing changes.
     #[tactic(auto, unfolding(spec_bas::specs::Steps::pair_step))]
     fn pair(
         &mut self,
@@ -136,7 +139,8 @@ impl Marks {
         Ok(())
     }
 
-    // Reads a card of a column alone: it is at its upper bound, or where it stands without a card.
+    // Reads a card of a column alone: it is at its upper bound, or stands as it does without a card. An unknown name,
+    // one that an earlier card has, and an upper bound that the column lacks are faults, and nothing changes.
     fn single(
         &mut self,
         model: &Model,
@@ -157,7 +161,8 @@ impl Marks {
         self.put(form, j, stands)
     }
 
-    // Gives column `j` the status that a card says, if it has the upper bound that this needs.
+    // Notes for column `j` that it is at its upper bound, or stands as it does without a card, as `stands` says. An
+    // upper bound that the column does not have is a fault.
     fn put(&mut self, form: &LargeForm, j: u32, stands: Stands) -> Result<(), BasCode>
         requires all { length self.old.marks ≡ form.now.cols + form.now.rows }
         requires column { j < form.now.cols }
@@ -178,7 +183,7 @@ impl Marks {
         }
     }
 
-    // Reads a data card, which gives a column and perhaps a row a status.
+    // Reads a data card: gives a status to its column, and to its row if it names one. A fault changes nothing.
     #[tactic(auto, unfolding(spec_bas::specs::Steps::upper_step, spec_bas::specs::Steps::usual_step))]
     fn card(&mut self, model: &Model, form: &LargeForm, card: &Card) -> Result<(), BasCode>
         requires sizes { HasSizeOf model.now form.now }
@@ -209,7 +214,7 @@ impl Marks {
         }
     }
 
-    // The basis of the statuses of all columns.
+    // The basis in which each column has the status of its card, or the one that it has without a card.
     #[tactic(auto, unfolding(spec_bas::specs::Steps::marked_basis))]
     fn basis(&self, alloc: Global, form: &LargeForm) -> Result<Basis, AllocError>
         requires all { length self.now.marks ≡ form.now.cols + form.now.rows }
@@ -223,7 +228,8 @@ impl Marks {
         Ok(Basis::from_vec(items, form.rows()))
     }
 
-    /// Reads a line. Where it ends the file, gives the basis.
+    /// Reads a line and notes the statuses that its card gives. Gives the basis where the line ends the file, else
+    /// none. A wrong line, or memory that is refused, is an error, and changes nothing.
     #[tactic(auto, unfolding(spec_bas::specs::Steps::step))]
     pub fn take(
         &mut self,

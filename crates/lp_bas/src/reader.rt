@@ -27,6 +27,7 @@ impl std::marker::Model for BasReader {
 }
 
 impl Drop for BasReader {
+    /// Frees the memory of the reader.
     fn drop(self) {
         let BasReader { marks, lines: _ } = self;
         drop(marks);
@@ -43,7 +44,8 @@ impl BasReader {
         Ok(BasReader { marks, lines: 0 })
     }
 
-    /// Takes the next line of a basis file, and gives the basis or a fault where the file ends with it.
+    /// Takes the next line of a basis file. Gives the basis or a fault where the file ends with it, and `More` where it
+    /// goes on; `NoMemory` where memory is refused.
     pub fn feed(
         &mut self,
         alloc: Global,

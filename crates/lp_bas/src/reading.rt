@@ -14,7 +14,7 @@ pub(crate) type Card = spec_bas::Card<Name>;
 /// What a line is.
 pub(crate) type Reading = spec_bas::Reading<Name>;
 
-// The card of this kind, with a column and a row, or none where there is no such kind.
+// The card of the kind `XU` or `XL` with this column and this row; none where `kind` is another word.
 fn pair_of(
     alloc: Global,
     kind: &[u8],
@@ -32,7 +32,7 @@ fn pair_of(
     })
 }
 
-// The card of this kind, with a column alone, or none where there is no such kind.
+// The card of the kind `UL` or `LL` with this column alone; none where `kind` is another word.
 fn single_of(alloc: Global, kind: &[u8], column: &[u8]) -> Result<Option<Card>, AllocError>
     ensures { IfOk result (λ card. card ≡ cards.single_of kind.now column.now) }
 {
@@ -44,7 +44,8 @@ fn single_of(alloc: Global, kind: &[u8], column: &[u8]) -> Result<Option<Card>, 
     })
 }
 
-// The card that the words say, or none.
+// The card that two words of a line say, a kind and a column, or three, with a row too; none where the words are more,
+// fewer, or of no such kind.
 #[tactic(auto, unfolding(spec_bas::specs::Cards::card_of))]
 fn card_of(alloc: Global, words: &[Field]) -> Result<Option<Card>, AllocError>
     ensures { IfOk result (λ card. card ≡ cards.card_of (texts_of words.now)) }
@@ -56,7 +57,7 @@ fn card_of(alloc: Global, words: &[Field]) -> Result<Option<Card>, AllocError>
     }
 }
 
-// What a data card with these words is.
+// What a data card with these words is: a card of a known kind, or a fault.
 fn data_reading(alloc: Global, words: &Fields) -> Result<Reading, AllocError>
     ensures { IfOk result (λ reading. reading ≡ cards.data_reading (cards.card_of (texts_of words.now))) }
 {
@@ -66,7 +67,7 @@ fn data_reading(alloc: Global, words: &Fields) -> Result<Reading, AllocError>
     }
 }
 
-// What a section card is, by its first word.
+// What a heading is, by its first word: `NAME`, `ENDATA`, or a fault.
 #[tactic(auto, unfolding(spec_bas::specs::Cards::section_reading))]
 fn section_reading(words: &[Field]) -> Reading
     ensures { result ≡ cards.section_reading (texts_of words.now) }
@@ -83,7 +84,7 @@ fn section_reading(words: &[Field]) -> Reading
     Reading::Wrong(BasCode::Section)
 }
 
-// What a line with these bytes is.
+// What a line with these bytes is: a data card, a heading, a line to be skipped, or a fault.
 fn text_reading(alloc: Global, bytes: &[u8]) -> Result<Reading, AllocError>
     ensures { IfOk result (λ reading. reading ≡ cards.text_reading bytes.now) }
 {
@@ -96,7 +97,8 @@ fn text_reading(alloc: Global, bytes: &[u8]) -> Result<Reading, AllocError>
     }
 }
 
-/// What a line of a basis file is: a card, a heading, a line to be skipped, or a fault.
+/// What a line of a basis file is: a card, a heading, a line to be skipped, or a fault. A line that is too long is the
+/// fault `Card`, and the end of the input `Cut`.
 #[tactic(auto, unfolding(spec_bas::specs::Cards::reading_of))]
 pub(crate) fn reading_of(alloc: Global, line: &Line) -> Result<Reading, AllocError>
     ensures { IfOk result (λ reading. reading ≡ cards.reading_of line.now) }

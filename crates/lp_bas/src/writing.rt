@@ -45,7 +45,7 @@ pub(crate) enum Listed {
     AtUpper,
 }
 
-// Whether column `k` has the status that is listed.
+// Whether column `k` has the status that `which` asks for: basic, or at its upper bound.
 fn is_listed(which: Listed, basis: &Basis, k: u32) -> bool
     requires { k < length basis.now }
     ensures { result ≡ is_listed which (basis_at basis.now k) }
@@ -76,7 +76,7 @@ fn columns(
     Ok(found)
 }
 
-// The rows whose logical columns are not basic.
+// The rows whose logical columns are not basic, in order.
 fn other_rows(alloc: Global, form: &LargeForm, basis: &Basis) -> Result<Vec<u32>, AllocError>
     requires { length basis.now ≡ form.now.cols + form.now.rows }
     ensures { IfOk result (λ found. found.items ≡ written.other_rows form.now basis.now) }
@@ -90,7 +90,7 @@ fn other_rows(alloc: Global, form: &LargeForm, basis: &Basis) -> Result<Vec<u32>
     Ok(found)
 }
 
-// The word of a card of a column and a row, by the row's status.
+// The word of a card of a column and a row: `XU` where the row is at its upper limit, else `XL`.
 fn pair_word(row: Status) -> &'static [u8]
     ensures { result.now ≡ pair_word row }
 {
@@ -119,7 +119,7 @@ fn push_name(name: &[u8], to: &mut Bytes) -> Result<(), AllocError>
     to.push(b'\n')
 }
 
-// Adds a card of a column and a row.
+// Adds a card of this kind with a column's and a row's name.
 fn push_pair(kind: &[u8], column: &[u8], row: &[u8], to: &mut Bytes) -> Result<(), AllocError>
     ensures { OnOk result (to.new ≡ to.old ++ text.cards_text style.Free
         (text.Data (written.pair_fields kind.now column.now row.now) ∷ [])) }
@@ -140,7 +140,8 @@ fn push_upper(column: &[u8], to: &mut Bytes) -> Result<(), AllocError>
     to.push(b'\n')
 }
 
-// Adds the card of column `j` and row `i`.
+// Adds the card of a basic column `j` and a row `i` whose logical is not basic: `XU` where that is at its upper bound,
+// else `XL`.
 fn push_pair_of(
     model: &Model,
     form: &LargeForm,
@@ -161,7 +162,7 @@ fn push_pair_of(
     push_pair(kind, column, model.row(i).name.as_slice(), to)
 }
 
-// Adds a card for each column and the row at the same place of the other list.
+// Adds a card for each column and the row at the same place of the other list, as far as both lists go.
 fn push_pairs(
     model: &Model,
     form: &LargeForm,
@@ -196,7 +197,8 @@ fn push_uppers(model: &Model, columns: &[u32], to: &mut Bytes) -> Result<(), All
     Ok(())
 }
 
-// Adds all data cards of the basis.
+// Adds all data cards of the basis: first the pairs of a basic column and a row that is not, then the columns at their
+// upper bounds.
 fn push_cards(
     alloc: Global,
     model: &Model,

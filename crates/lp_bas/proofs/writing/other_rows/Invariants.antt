@@ -4,6 +4,6 @@ use Rattle.spec_simplex.specs.Eliminate.{basis_at}
 use Rattle.spec_bas.specs.Written.{chosen}
 use Rattle.lp_bas.proofs.writing.other_rows.Given as goal
 
--- those before this one
+-- the rows found so far are those before row i whose logical columns are not basic
 abbrev pub invariant-loop-i : goal.invariant-loop-i
 invariant-loop-i l = l.found.items ≡ chosen l.i (λ i. not (is_basic (basis_at l.basis (l.form.cols + i))))

@@ -5,7 +5,7 @@ use Rattle.spec_mps.specs.Written.{cards_text}
 use Rattle.spec_bas.specs.Written.{written_card, pair_card}
 use Rattle.lp_bas.proofs.writing.push_pairs.Given as goal
 
--- the cards of the pairs before this one
+-- the text has grown by the cards of the pairs before this one
 abbrev pub invariant-loop-at : goal.invariant-loop-at
 invariant-loop-at l =
     l.to ≡ l.initial.to ++ cards_text Free
