@@ -49,7 +49,7 @@ module _ (f : Form) (basis : List Status) (kept : IsForm f) (all : length basis 
   uppers_length : length (basis_upper f) ≡ width_of f
   uppers_length = more_by f.upper (f.cols + f.rows) f.rows (Some 0ℚ) kept.all_upper
 
-  -- as many bounds as statuses
+  -- a tableau of a basis has as many lower bounds as statuses
   pub lowers_beside : (lower : List (Option ℚ)) (status : List Status) → lower ≡ basis_lower f →
       status ≡ basis_status f basis → length lower ≡ length status
   lowers_beside lower status l s = ap length l ∙ lowers_length ∙ sym (ap length s ∙ statuses_length)

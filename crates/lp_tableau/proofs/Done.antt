@@ -74,7 +74,7 @@ pub record IsRowDone (p k : ℕ) (f : ℕ → Run ℚ) (old new : List (List ℚ
 pub no_row_done : (p : ℕ) (f : ℕ → Run ℚ) (old : List (List ℚ)) → IsRowDone p 0 f old old
 no_row_done p f old = record { row = none_done f (get_or old p []); frame = sym (set-get_or old p []) }
 
--- the rows with one item more
+-- the rows with v as item k of row p
 abbrev pub with_item : List (List ℚ) → ℕ → ℕ → ℚ → List (List ℚ)
 with_item rows p k v = set rows p (set (get_or rows p []) k v)
 

@@ -90,7 +90,8 @@ one_inside n basic p j a l = All-set (λ (o : Option ℕ). IfSome o (λ k. k < n
 abbrev solve_at : Option ℕ → Form → List Status → ℕ → Elimination → Result Elimination (StartStop ℚ)
 solve_at limit f basis j e = cond (is_basic (basis_at basis j)) (solved_run limit f e j) (Ok e)
 
--- after the columns below j
+-- the rows are solved for the basic columns below j: the run gives these rows and columns of positions, of the right
+-- sizes
 pub record Solving (limit : Option ℕ) (f : Form) (basis : List Status)
     (j : ℕ) (rows : List (List ℚ)) (basic : List (Option ℕ)) : Type 0 where
   pub so_far : steps j (solve_at limit f basis) (unsolved f) ≡ Ok (record { rows = rows; basic = basic })

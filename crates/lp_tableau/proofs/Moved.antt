@@ -12,7 +12,8 @@ use Rattle.spec_exact.proofs.RunsInOrder.{steps_stop}
 abbrev pub MovedFrom : Tableau → Tableau → Type 0
 MovedFrom t u = u ≡ record t { value = u.value }
 
--- what is done at position i
+-- the values after position i: its basic column moved as column j moves by theta, or all as they are where `but` names
+-- it
 abbrev pub move_at : Option ℕ → Tableau → ℕ → ℚ → Option ℕ → ℕ → List ℚ → Run (List ℚ)
 move_at limit t j theta but i values = cond (is_place but i) (Ok values) (moved_at limit t j theta i values)
 

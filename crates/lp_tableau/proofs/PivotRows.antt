@@ -11,7 +11,7 @@ use Rattle.spec_exact.specs.Narrow.{number_limit}
 use Rattle.lp_tableau.specs.Grid.{IsGrid}
 use Rattle.lp_tableau.specs.Twins.{twinned}
 
--- what is done at row i
+-- the rows after row i: a multiple of row p taken off it, so that column j is 0 in it; or all as they are where i is p
 abbrev pub turned_at : Option ℕ → ℕ → ℕ → ℕ → ℕ → List (List ℚ) → Run (List (List ℚ))
 turned_at limit n p j i rows = cond (nat_eq i p) (Ok rows) (cleared_run limit n p j i rows)
 

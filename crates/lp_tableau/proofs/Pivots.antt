@@ -8,7 +8,7 @@ use Rattle.spec_simplex.specs.Tableau.{Tableau, all_columns}
 use Rattle.spec_simplex.specs.Step.{moved_run, shifted_run, turned_run, repriced_run, turned, exchanged, pivot_run}
 use Rattle.lp_tableau.proofs.Moved.{MovedFrom}
 
--- u is t but for its rows, and but for its reduced costs
+-- u is t but for its rows
 abbrev pub TurnedFrom : Tableau → Tableau → Type 0
 TurnedFrom t u = u ≡ record t { entries = u.entries }
 
@@ -25,7 +25,7 @@ abbrev with_reduced : List ℚ → Tableau → Tableau
 with_reduced reduced t = record t { reduced = reduced }
 
 module _ (limit : Option ℕ) (t : Tableau) (p j : ℕ) (theta : ℚ) (to : Status) where
-  -- on from the values, from the shift, and from the rows
+  -- what is left of a pivot after the shifted values and the turned rows: the new reduced costs, and the exchange
   abbrev after_rows : List ℚ → List (List ℚ) → Run Tableau
   after_rows shifted rows =
       repriced_run limit (all_columns t) t.reduced rows p j >>=

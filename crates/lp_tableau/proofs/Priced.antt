@@ -2,8 +2,8 @@
 --
 -- `reduced_same`: the reduced cost of a column does not depend on the reduced costs that the tableau has.
 -- `repriced_again`: a tableau that was repriced and gets other reduced costs is still the first one repriced.
--- `phase_two_gives`: fixing the artificials and pricing at the form's costs gives, or refuses, what the run of phase
---   two does.
+-- `phase_two_gives`: where the code fixes the artificials and prices at the form's costs, it gets the tableau with
+--   which phase two begins, or is refused as `phase_two_run` is.
 -- `free_passed`: a basic column of cost 0 may be passed over in the sum of a reduced cost.
 use Rattle.std.proofs.Common.{◌≡◌, ℕ, ◌+◌, List, Option, Some, Ok, Err, Result, sym, subst, ap, ◌∙◌}
 use Rattle.std.specs.Prelude.{⊤}
@@ -45,7 +45,7 @@ phase_two_gives limit f t u x costs (Err p) e g h k =
     subst (λ w. priced_run limit w f.cost ≡ Err p) e (subst (λ c. priced_run limit u c ≡ Err p) g h) in
     ap (λ o. o >>= λ reduced. Ok (with_reduced (without_artificials t) reduced)) priced
 
--- a basic column of no cost is passed over
+-- d less the cost of position i's basic column times its entry in column k, at the limit of 127 bits
 abbrev pub less_basic : Tableau → List ℚ → ℕ → ℕ → ℚ → Run ℚ
 less_basic t costs k i d = less_product (Some number_limit) (cost_at costs (basic_at t i)) (entry_at t i k) d
 

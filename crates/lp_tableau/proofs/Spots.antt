@@ -60,7 +60,8 @@ module _ (f : ℕ → Run ℚ) (old new : List ℚ) where
       let z : a + (b - a) ≡ b = omega (arith, l) in
       subst (λ i. IsDone i f old new) z (kept a (b - a) d (omega (arith, z, h)) (λ k g m. e k g (omega (arith, m, z))))
 
--- in a row among rows
+-- where row p is done up to item a, and for each item from a up to b the run gives what the old row has there, row p is
+-- done up to item b
 row_kept : (p a b : ℕ) (f : ℕ → Run ℚ) (old new : List (List ℚ)) → IsRowDone p a f old new → a ≤ b →
     b ≤ length (get_or new p []) → ((k : ℕ) → a ≤ k → k < b → f k ≡ Ok (at_place old p k)) → IsRowDone p b f old new
 row_kept p a b f old new d l h e =
@@ -117,7 +118,7 @@ module _ (n p : ℕ) (times : ℚ) (i : ℕ) (old new : List (List ℚ))
   zero_kept : (k : ℕ) → at_place old p k ≡ 0ℚ → cleared_at old p times i k ≡ Ok (at_place old i k)
   zero_kept k e = less_times_no number_limit times (at_place old p k) (at_place old i k) e t (w.each i k)
 
-  -- at the next column
+  -- before the next listed column k, row i is done up to k
   pub there : (k : ℕ) (ks : List ℕ) → IsOnWay n p times i (k ∷ ks) old new → length (get_or new i []) ≡ n →
       IsRowDone i k (cleared_at old p times i) old new
   there k ks o e =
@@ -128,7 +129,7 @@ module _ (n p : ℕ) (times : ℚ) (i : ℕ) (old new : List (List ℚ))
   pub next_inside : (k : ℕ) (ks : List ℕ) → IsOnWay n p times i (k ∷ ks) old new → k < n
   next_inside k ks o = (let x : IsNext (get_or old p []) o.so_far k n = o.ahead.0 in x.inside)
 
-  -- beyond it
+  -- once item k of row i is replaced, clearing is on its way along the listed columns behind k
   pub gone_on : (k : ℕ) (ks : List ℕ) (next : List (List ℚ)) → IsOnWay n p times i (k ∷ ks) old new →
       IsRowDone i (k + 1) (cleared_at old p times i) old next → IsOnWay n p times i ks old next
   gone_on k ks next o d =
@@ -139,7 +140,7 @@ module _ (n p : ℕ) (times : ℚ) (i : ℕ) (old new : List (List ℚ))
         ahead = o.ahead.1;
       }
 
-  -- at the end
+  -- where no listed column is left, row i is done up to its end
   pub arrived : IsOnWay n p times i [] old new → length (get_or new i []) ≡ n →
       IsRowDone i n (cleared_at old p times i) old new
   arrived o e =

@@ -45,7 +45,7 @@ length-flat : (n m : ℕ) (f : ℕ → List ℚ) → ((i : ℕ) → length (f i)
 length-flat n zero f h = omega arith
 length-flat n (suc m) f h = omega (arith, length-append (flat m f) (f m), length-flat n m f h, h m, suc-mul m n)
 
--- the rows of a block and one row more
+-- a block with one row of n items behind it has the rows of the block, and then that row
 rows_of-append : (n m : ℕ) (xs ys : List ℚ) → length xs ≡ m * n → length ys ≡ n →
     rows_of n (suc m) (xs ++ ys) ≡ rows_of n m xs ++ ys ∷ []
 rows_of-append n zero [] ys h g = ap (λ row. row ∷ []) (ap (λ k. take k ys) (sym g) ∙ take-length ys)
@@ -163,7 +163,8 @@ twinned_made c turned zero f = refl
 twinned_made c turned (suc m) f =
     twinned_push c turned (made m f) (f m) ∙ ap (λ xs. xs ++ with_twins c turned (f m) ∷ []) (twinned_made c turned m f)
 
--- a logical and its artificial
+-- the entry of a row's logical in that row at the start, negated where the row's sum is below its lower limit, is 1, as
+-- its artificial has there
 sign_is : (s : RowStart ℚ) → signed (is_below s) (logical_sign s) ≡ 1ℚ
 sign_is (Within v) = refl
 sign_is (Below gap) = neg-neg 1ℚ

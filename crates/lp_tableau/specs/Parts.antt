@@ -6,7 +6,8 @@ use Rattle.spec_simplex.specs.Tableau.{Tableau}
 use Rattle.lp_tableau.specs.declared.tableau.ColumnLists.{ColumnLists}
 use Rattle.lp_tableau.specs.Grid.{Rows}
 
--- the tableau of these parts
+-- the tableau with so many rows and structural columns, with these rows of entries and basic columns by position, and
+-- with these values, reduced costs, statuses, lower and upper bounds by column
 abbrev pub tableau_of : ℕ → ℕ → Rows → List ℕ → List ℚ → List ℚ → List Status → List (Option ℚ) → List (Option ℚ) →
     Tableau
 tableau_of rows cols entries basic value reduced status lower upper =
@@ -22,7 +23,7 @@ tableau_of rows cols entries basic value reduced status lower upper =
       upper = upper;
     }
 
--- the lists have these items
+-- the lists of the columns have these values, reduced costs, statuses, lower and upper bounds
 pub record AreLists (l : ColumnLists) (values costs : List ℚ) (statuses : List Status)
     (lowers uppers : List (Option ℚ)) : Type 0 where
   pub value : l.value.items ≡ values

@@ -22,7 +22,8 @@ use lp_form::{Basis, BasisStop, Form, Status, is_basic};
 use lp_frac::{Frac, Past, less_product, zero};
 use std::alloc::{AllocError, Global};
 
-// The form's equations, in which each artificial has the sign of its logical.
+// The form's equations, one row for each, before any is solved. Each artificial has the sign of its logical. Memory may
+// run out.
 fn equations(alloc: Global, form: &Form) -> Result<Twins, AllocError>
     ensures { IfOk result (λ rows. rows ≡ (elimination.unsolved form.now).rows) }
 {
@@ -31,7 +32,7 @@ fn equations(alloc: Global, form: &Form) -> Result<Twins, AllocError>
     rows(alloc, form, &coefficients, &starts)
 }
 
-// No column for each position of the form.
+// A list that gives no column to any position of the form, if there is memory.
 fn no_columns(alloc: Global, form: &Form) -> Result<Vec<Option<u32>>, AllocError>
     ensures { IfOk result (λ v. v.items ≡ (elimination.unsolved form.now).basic) }
 {
@@ -48,7 +49,7 @@ fn or_first(column: Option<u32>) -> u32
     }
 }
 
-// The column of each position, the first one where a position has none.
+// The column of each position, the first one where a position has none. Memory may run out.
 fn columns(alloc: Global, basic: &[Option<u32>]) -> Result<Vec<u32>, AllocError>
     ensures { IfOk result
         (λ v. v.items ≡ made (length basic.now) (λ i. elimination.or_first (get_or basic.now i None))) }
@@ -60,7 +61,7 @@ fn columns(alloc: Global, basic: &[Option<u32>]) -> Result<Vec<u32>, AllocError>
     Ok(columns)
 }
 
-// The status of each column: those of the basis, and each artificial at its lower bound.
+// The status of each column: those of the basis, and each artificial at its lower bound. Memory may run out.
 fn statuses(alloc: Global, form: &Form, basis: &Basis) -> Result<Vec<Status>, AllocError>
     ensures { IfOk result (λ v. v.items ≡ elimination.basis_status form.now basis.now) }
 {
@@ -69,14 +70,15 @@ fn statuses(alloc: Global, form: &Form, basis: &Basis) -> Result<Vec<Status>, Al
     Ok(statuses)
 }
 
-// The upper bounds of the form, and 0 for each artificial.
+// The upper bounds of the form, and 0 for each artificial. Memory may run out.
 fn uppers(alloc: Global, form: &Form) -> Result<Vec<Option<Frac>>, AllocError>
     ensures { IfOk result (λ v. v.items ≡ elimination.basis_upper form.now) }
 {
     with_artificials(alloc, form.uppers(), form.rows())
 }
 
-// The value of each nonbasic column by its status and bounds, and 0 for each basic one.
+// The value of each column: that of a nonbasic one by its status and bounds, and 0 for each basic one. Memory may run
+// out.
 fn values(
     alloc: Global,
     status: &[Status],
@@ -94,7 +96,8 @@ fn values(
     Ok(values)
 }
 
-// The lists of the tableau by columns, without the values of basic columns and without reduced costs.
+// The lists of the tableau by columns, with 0 for the values of basic columns and for the reduced costs. Memory may run
+// out.
 fn lists(alloc: Global, form: &Form, basis: &Basis) -> Result<ColumnLists, AllocError>
     requires kept { IsForm form.now }
     requires statuses { length basis.now ≡ form.now.cols + form.now.rows }
@@ -114,7 +117,8 @@ fn lists(alloc: Global, form: &Form, basis: &Basis) -> Result<ColumnLists, Alloc
     })
 }
 
-// The tableau of these rows without the values of basic columns and without reduced costs.
+// The tableau of these rows and basic columns, with 0 for the values of basic columns and for the reduced costs. Memory
+// may run out.
 fn begun(
     alloc: Global,
     form: &Form,
@@ -136,7 +140,8 @@ fn begun(
 }
 
 impl Tableau {
-    // The value of the basic column at position `i`, from the values of the nonbasic columns.
+    // The value of the basic column at position `i`: the negative of the sum of its row's entries times the values of
+    // the nonbasic columns. Refused where a number is past 127 bits.
     fn position(&self, i: u32) -> Result<Frac, Past>
         requires { i < self.now.rows }
         ensures { result ≡ elimination.position_run (Some number_limit) self.now i }
@@ -150,7 +155,8 @@ impl Tableau {
         Ok(value)
     }
 
-    // The values of all columns: the nonbasic ones as they are, the basic ones from them.
+    // The values of all columns: the nonbasic ones keep theirs, and the basic ones get theirs from these. Else why not:
+    // a number past 127 bits, or no memory.
     fn valued(&self, alloc: Global) -> Result<Vec<Frac>, BasisStop>
         ensures ok { IfOk result (λ v. elimination.valued_run (Some number_limit) self.now ≡ Ok v.items) }
         ensures len { IfOk result (λ v. length v.items ≡ all_columns self.now) }
@@ -173,7 +179,8 @@ impl Tableau {
         self.value = values;
     }
 
-    // Sets the values of the basic columns, and the reduced costs for the form's costs.
+    // Sets the values of the basic columns, and the reduced costs for the form's costs. Else why not: a number past 127
+    // bits, or no memory.
     fn complete(&mut self, alloc: Global, form: &Form) -> Result<(), BasisStop>
         ensures ok { OnOk result (elimination.filled_run (Some number_limit) form.now self.old ≡ Ok self.new) }
         ensures err { IfErr result (StopsAt (refused_as start.Past
@@ -186,7 +193,8 @@ impl Tableau {
     }
 }
 
-// The form's equations solved for the basic columns.
+// The form's equations solved for the basis' columns, with 0 for the values of basic columns and for the reduced costs.
+// Else why not: a singular basis, a number past 127 bits, or no memory.
 fn solved(alloc: Global, form: &Form, basis: &Basis) -> Result<Tableau, BasisStop>
     requires { length basis.now ≡ form.now.cols + form.now.rows }
     ensures ok { IfOk result (λ t. based_run (Some number_limit) form.now basis.now ≡ Ok t) }
@@ -199,9 +207,9 @@ fn solved(alloc: Global, form: &Form, basis: &Basis) -> Result<Tableau, BasisSto
     Ok(tab)
 }
 
-/// The tableau of a basis: the form's equations solved for the basic columns, with their values and the reduced costs
-/// for the form's costs. The equations are solved for one column after the other, each in the least position that is
-/// left and where its entry is not 0. A basis is singular where a column has no such position.
+/// The tableau of a basis: the form's equations solved for one basic column after the other, each in the least position
+/// that is left and where its entry is not 0. It has all values and the form's reduced costs. Else why not: a column
+/// has no such position, so the basis is singular; a number past 127 bits; or no memory.
 pub fn start_from(alloc: Global, form: &Form, basis: &Basis) -> Result<Tableau, BasisStop>
     requires { length basis.now ≡ form.now.cols + form.now.rows }
     ensures ok { IfOk result (λ t. elimination.start_from (Some number_limit) form.now basis.now ≡ Ok t) }

@@ -20,7 +20,7 @@ fn put_column(grid: &mut Grid, form: &Form, j: u32)
     }
 }
 
-// The coefficients of the structural columns, row by row.
+// The coefficients of the structural columns, row by row, if there is memory.
 pub(crate) fn coefficients(alloc: Global, form: &Form) -> Result<Grid, AllocError>
     ensures { IfOk result (HoldsColumns form.now form.now.cols) }
 {

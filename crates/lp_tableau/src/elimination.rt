@@ -13,14 +13,15 @@ use crate::grid::Grid;
 use crate::pivot::Pivot;
 use lp_frac::{Frac, Past, div, is_zero, less_product, neg, within};
 
-// `v`, or its negative where it is turned.
+// `v`, or its negative if `is_turned`.
 fn signed(is_turned: bool, v: Frac) -> Frac
     ensures { result ≡ signed_of is_turned v }
 {
     if is_turned { neg(v) } else { v }
 }
 
-// The entry of row `i` in column `k`, which may be a twin.
+// The entry of row `i` in column `k`. Behind the columns that are kept, column `k` is a twin: the kept one, or its
+// negative.
 pub(crate) fn item(
     grid: &Grid,
     first: u32,
@@ -44,7 +45,7 @@ pub(crate) fn item(
     signed(turned[r], grid.at(i, first as usize + r))
 }
 
-// Divides row `p` by a number.
+// Divides the entries of row `p` by the number `by`. Refused where a number is past 127 bits.
 fn scale(grid: &mut Grid, height: u32, width: u32, p: u32, by: Frac) -> Result<(), Past>
     requires shape { IsGrid height width grid.old }
     requires place { p < height }
@@ -78,7 +79,8 @@ fn list(spots: &mut [u32], grid: &Grid, height: u32, width: u32, p: u32) -> usiz
     count
 }
 
-// Takes a multiple of row `p` off row `i`. Row `p` is 0 but in the columns of `spots`.
+// Subtracts `times` times row `p` from row `i`. Row `p` is 0 but in the columns of `spots`. Refused where a number is
+// past 127 bits.
 fn clear(
     grid: &mut Grid,
     height: u32,
@@ -114,7 +116,8 @@ fn clear(
     Ok(())
 }
 
-// Takes the multiple of the pivot's row off row `i` with which its entry in the pivot's column becomes 0.
+// Subtracts the multiple of the pivot's row from row `i` with which its entry in the pivot's column becomes 0. Refused
+// where a number is past 127 bits.
 fn clear_twins(
     grid: &mut Grid,
     first: u32,
@@ -141,7 +144,8 @@ fn clear_twins(
     clear(grid, others, first + others, at.position, times, i, spots)
 }
 
-// Turns all rows so that the pivot's column has 1 in the row of its position and 0 in all other rows.
+// Pivots all rows: afterwards the pivot's column has 1 in the row of its position and 0 in all other rows. Refused
+// where a number is past 127 bits.
 pub(crate) fn turn(
     grid: &mut Grid,
     first: u32,

@@ -23,7 +23,7 @@ impl Model for Grid {
     ghost invariant = { λ g. IsHeld g.height g.width g.block.items };
 }
 
-// The place in the block of the entry of row `i` in column `k`.
+// The index in the block of the entry of row `i` in column `k`. The rows stand one after the other.
 fn spot(block: &[Frac], height: usize, width: usize, i: usize, k: usize) -> usize
     requires block { IsBlock height width block.now }
     requires row { i < height }
@@ -35,7 +35,7 @@ fn spot(block: &[Frac], height: usize, width: usize, i: usize, k: usize) -> usiz
 }
 
 impl Grid {
-    // The rows of a block, which holds them one after the other.
+    // The grid whose rows stand one after the other in the block.
     pub(crate) fn from_block(height: usize, width: usize, block: Vec<Frac>) -> Grid
         requires { IsBlock height width block.items }
         ensures { result ≡ rows_of width height block.items }

@@ -24,7 +24,7 @@ pub fn directed(way: Way, v: Frac) -> Frac
     }
 }
 
-/// The bound that a column goes to where it rises, or falls.
+/// The bound that a column moves to: the upper one where it rises, the lower one where it falls.
 pub fn other_bound(way: Way) -> Status
     ensures { result ≡ other_bound_of way }
 {
@@ -34,7 +34,7 @@ pub fn other_bound(way: Way) -> Status
     }
 }
 
-/// The way in which a flip moves a column of this status.
+/// The way in which a flip moves a column of this status: up from its lower bound, else down.
 pub fn flip_way(status: Status) -> Way
     ensures { result ≡ flip_way_of status }
 {
@@ -44,7 +44,7 @@ pub fn flip_way(status: Status) -> Way
     }
 }
 
-/// Whether position `i` is the position `but`, if there is one.
+/// Whether `but` names position `i`; false where it names none.
 pub fn is_place(but: Option<u32>, i: u32) -> bool
     ensures { result ≡ is_place_of but i }
 {
@@ -63,7 +63,8 @@ impl Tableau {
         self.value[col as usize] = value;
     }
 
-    // Moves the basic column of position `i` as column `col` moves by `theta`.
+    // Moves the basic column of position `i` as the nonbasic column `col` moves by `theta`: by the opposite of its
+    // entry times `theta`. Refused where a number is past 127 bits.
     fn move_at(&mut self, col: u32, theta: Frac, i: u32) -> Result<(), Past>
         requires col_in_range { col < all_columns self.old }
         requires place_in_range { i < self.old.rows }
@@ -83,7 +84,8 @@ impl Tableau {
         Ok(())
     }
 
-    // Moves all basic columns as column `col` moves by `theta`, but for the one at position `but`, if there is one.
+    // Moves all basic columns as the nonbasic column `col` moves by `theta`, but for the one at position `but`, if
+    // there is one. Refused where a number is past 127 bits.
     pub(crate) fn move_values(
         &mut self,
         col: u32,
@@ -102,7 +104,7 @@ impl Tableau {
         Ok(())
     }
 
-    // Sets the status of column `col` to the bound `to`, and its value to that bound.
+    // Sets the status of column `col` to the bound `to`, and its value to that bound, or to 0 where it has none.
     pub(crate) fn put_at(&mut self, col: u32, to: Status)
         requires { col < all_columns self.old }
         ensures { self.new ≡ flipped self.old col to self.old.value }
@@ -112,8 +114,8 @@ impl Tableau {
         self.status[col as usize] = to;
     }
 
-    /// Moves a column to its other bound, and the basic columns with it. After a refusal the tableau
-    /// is spent.
+    /// Moves a column to its other bound, and the basic columns with it. Refused where a number is past 127 bits; the
+    /// tableau is of no use then.
     pub fn flip(&mut self, col: u32) -> Result<(), Past>
         requires { CanFlip self.old col }
         ensures { GivesRun (flip_run (Some number_limit) self.old col) self.new result }

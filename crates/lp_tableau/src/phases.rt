@@ -25,14 +25,14 @@ impl Tableau {
         }
     }
 
-    // Whether column `k` has the value 0.
+    // Whether the value of column `k` is 0; true where there is no such column.
     fn is_at_zero(&self, k: u32) -> bool
         ensures { result ≡ eq_ℚ (tableaus.value_at self.now k) 0ℚ }
     {
         are_same(self.value_or_zero(k), zero())
     }
 
-    // Whether column `k` is an artificial that is not 0.
+    // Whether column `k` is an artificial whose value is not 0.
     fn is_wanting(&self, k: u32) -> bool
         ensures { result ≡ (tableaus.is_artificial self.now k && not (eq_ℚ (tableaus.value_at self.now k) 0ℚ)) }
     {

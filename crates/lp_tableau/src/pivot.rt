@@ -20,7 +20,8 @@ pub struct Pivot {
     pub column: u32,
 }
 
-// Takes the multiple of the pivot's row off the reduced costs with which that of its column becomes 0.
+// Subtracts the multiple of the pivot's row from the reduced costs with which that of the pivot's column becomes 0. The
+// rows are pivoted already. Refused where a number is past 127 bits.
 fn reprice(reduced: &mut [Frac], grid: &Twins, height: u32, at: Pivot) -> Result<(), Past>
     requires shape { IsGrid height (length reduced.old) grid.now }
     requires place { at.position < height }
@@ -44,7 +45,7 @@ fn reprice(reduced: &mut [Frac], grid: &Twins, height: u32, at: Pivot) -> Result
 }
 
 impl Tableau {
-    // Moves the value of column `col`, which is nonbasic, by `theta`.
+    // Adds `theta` to the value of column `col`, which is nonbasic. Refused where the sum is past 127 bits.
     #[tactic(auto, unfolding(spec_simplex::specs::Step::shifted_run))]
     fn shift(&mut self, col: u32, theta: Frac) -> Result<(), Past>
         requires { col < all_columns self.old }
@@ -56,7 +57,8 @@ impl Tableau {
         Ok(())
     }
 
-    // Turns the rows so that the pivot's column has 1 at its position and 0 at all other positions.
+    // Pivots the rows: afterwards the pivot's column has 1 at its position and 0 at all other positions. Refused where
+    // a number is past 127 bits.
     fn turn_rows(&mut self, at: Pivot) -> Result<(), Past>
         requires place { at.position < self.old.rows }
         requires column { at.column < all_columns self.old }
@@ -69,7 +71,8 @@ impl Tableau {
         self.grid.turn(rows, width, at)
     }
 
-    // Updates the reduced costs so that that of the pivot's column becomes 0.
+    // Updates the reduced costs so that that of the pivot's column becomes 0, after the rows are pivoted. Refused where
+    // a number is past 127 bits.
     fn reprice(&mut self, at: Pivot) -> Result<(), Past>
         requires place { at.position < self.old.rows }
         requires column { at.column < all_columns self.old }
@@ -81,7 +84,8 @@ impl Tableau {
         reprice(&mut self.reduced, &self.grid, rows, at)
     }
 
-    // Makes the pivot's column basic at its position.
+    // Notes the pivot's column as the basic one of its position: in the list of basic columns and in its own status.
+    // Rows, reduced costs and the status of the column that was basic there stay.
     fn make_basic(&mut self, at: Pivot)
         requires place { at.position < self.old.rows }
         requires column { at.column < all_columns self.old }
@@ -111,7 +115,7 @@ impl Tableau {
     }
 
     /// Moves the pivot's column by `theta` and the basic columns with it, and makes it basic in place of the one at the
-    /// position, which goes to the bound `to`. After a refusal the tableau is spent.
+    /// position, which goes to the bound `to`. Refused where a number is past 127 bits; the tableau is of no use then.
     pub fn pivot(&mut self, at: Pivot, theta: Frac, to: Status) -> Result<(), Past>
         requires { CanPivot self.old at.position at.column theta to }
         ensures { GivesRun (pivot_run (Some number_limit) self.old at.position at.column theta to) self.new result }

@@ -22,7 +22,8 @@ fn cost_at(costs: &[Frac], k: u32) -> Frac
 }
 
 impl Tableau {
-    // The reduced cost of column `k` for these costs.
+    // The reduced cost of column `k` for these costs: its cost less those of the basic columns times its entries in
+    // their rows. Refused where a number is past 127 bits.
     fn reduced_cost(&self, costs: &[Frac], k: u32) -> Result<Frac, Past>
         requires { k < all_columns self.now }
         ensures { result ≡ reduced_run (Some number_limit) self.now costs.now k }
@@ -49,7 +50,7 @@ impl Tableau {
         self.reduced[k as usize] = cost;
     }
 
-    // Sets the reduced costs of all columns for these costs.
+    // Sets the reduced costs of all columns for these costs. Refused where a number is past 127 bits.
     pub(crate) fn price(&mut self, costs: &[Frac]) -> Result<(), Past>
         ensures priced { GivesRun (priced_run (Some number_limit) self.old costs.now) self.new.reduced result }
         ensures rest { self.new ≡ record self.old { reduced = self.new.reduced } }
@@ -83,8 +84,8 @@ impl Tableau {
         }
     }
 
-    /// Goes on to phase two: all artificials are fixed at 0, and the costs are the form's. After a
-    /// refusal the tableau is spent.
+    /// Goes on to phase two: all artificials are fixed at 0, and the costs are the form's. Refused where a number is
+    /// past 127 bits; the tableau is of no use then.
     pub fn phase_two(&mut self, form: &Form) -> Result<(), Past>
         requires same_rows { form.now.rows ≡ self.old.rows }
         requires same_cols { form.now.cols ≡ self.old.cols }

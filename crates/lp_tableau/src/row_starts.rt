@@ -30,7 +30,7 @@ pub(crate) fn first_status(form: &Form, j: u32) -> Status
     }
 }
 
-// The value of structural column `j` at the start.
+// The value of structural column `j` at the start: its lower bound, else its upper one, else 0.
 pub(crate) fn first_value(form: &Form, j: u32) -> Frac
     requires { j < form.now.cols }
     ensures { result ≡ starting.first_value form.now j }
@@ -38,7 +38,7 @@ pub(crate) fn first_value(form: &Form, j: u32) -> Frac
     stand(first_status(form, j), form.lower(j), form.upper(j))
 }
 
-// The sum of row `i` at the start's values of the structural columns.
+// The sum of row `i` at the start's values of the structural columns. Refused where a number is past 127 bits.
 fn row_sum(form: &Form, coefficients: &Grid, i: u32) -> Result<Frac, Past>
     requires held { HoldsColumns form.now form.now.cols coefficients.now }
     requires row { i < form.now.rows }
@@ -52,7 +52,8 @@ fn row_sum(form: &Form, coefficients: &Grid, i: u32) -> Result<Frac, Past>
     Ok(sum)
 }
 
-// How much `v` is below the bound, if it is.
+// How much `v` is below the bound; none where it is not, or where there is no bound. Refused where a number is past 127
+// bits.
 fn below(bound: Option<Frac>, v: Frac) -> Result<Option<Frac>, Past>
     ensures { result ≡ starting.below_run (Some number_limit) bound v }
 {
@@ -65,7 +66,8 @@ fn below(bound: Option<Frac>, v: Frac) -> Result<Option<Frac>, Past>
     }
 }
 
-// How a row begins whose sum `v` is not below its lower bound.
+// How a row begins whose sum `v` is not below its lower limit: within its limits, or above the upper one by a gap.
+// Refused where a number is past 127 bits.
 fn within_or_above(upper: Option<Frac>, v: Frac) -> Result<RowStart, Past>
     ensures { result ≡ starting.row_start_by (Some number_limit) upper v None }
 {
@@ -78,7 +80,8 @@ fn within_or_above(upper: Option<Frac>, v: Frac) -> Result<RowStart, Past>
     }
 }
 
-// How row `i` begins: within its limits, or outside them by a gap.
+// How row `i` begins: its sum within its limits, or below or above them by a gap. Refused where a number is past 127
+// bits.
 fn row_start(form: &Form, coefficients: &Grid, i: u32) -> Result<RowStart, Past>
     requires held { HoldsColumns form.now form.now.cols coefficients.now }
     requires row { i < form.now.rows }
@@ -92,7 +95,7 @@ fn row_start(form: &Form, coefficients: &Grid, i: u32) -> Result<RowStart, Past>
     }
 }
 
-// Adds a row's start to the list.
+// Adds a row's start behind the list, if there is memory.
 fn push_start(starts: &mut Vec<RowStart>, start: RowStart) -> Result<(), AllocError>
     ensures { OnOk result (starts.new.items ≡ starts.old.items ++ start ∷ []) }
 {
@@ -100,7 +103,8 @@ fn push_start(starts: &mut Vec<RowStart>, start: RowStart) -> Result<(), AllocEr
     Ok(())
 }
 
-// How all rows begin, in order.
+// How each row begins, in order: its sum within its limits, or below or above them by a gap. Else why not: a number
+// past 127 bits, or no memory.
 pub(crate) fn row_starts(
     alloc: Global,
     form: &Form,

@@ -42,7 +42,7 @@ fn is_open(grid: &Twins, basic: &[Option<u32>], form: &Form, j: u32, i: u32) -> 
     has_none(basic[i as usize]) && !is_zero(grid.at(i as usize, j as usize))
 }
 
-// The least position that has no column yet and whose entry in column `j` is not 0.
+// The least position that has no column yet and whose entry in column `j` is not 0; none if there is none.
 fn open(grid: &Twins, basic: &[Option<u32>], form: &Form, j: u32) -> Option<u32>
     requires shape { IsGrid form.now.rows (form.now.cols + form.now.rows + form.now.rows) grid.now }
     requires places { length basic.now ≡ form.now.rows }
@@ -58,7 +58,8 @@ fn open(grid: &Twins, basic: &[Option<u32>], form: &Form, j: u32) -> Option<u32>
     None
 }
 
-// Makes column `j` basic at the least open position, and turns the rows so. Without one the basis is singular.
+// Makes column `j` basic at the least open position, by a pivot of all rows there. Without such a position the basis is
+// singular. Refused where a number is past 127 bits.
 fn solve(grid: &mut Twins, basic: &mut [Option<u32>], form: &Form, j: u32) -> Result<(), BasisStop>
     requires shape { IsGrid form.now.rows (form.now.cols + form.now.rows + form.now.rows) grid.old }
     requires places { length basic.old ≡ form.now.rows }
@@ -82,7 +83,7 @@ fn solve(grid: &mut Twins, basic: &mut [Option<u32>], form: &Form, j: u32) -> Re
     Ok(())
 }
 
-// Whether column `j` is basic.
+// Whether the basis has column `j` as a basic one.
 fn is_basic_at(basis: &Basis, j: u32) -> bool
     requires { j < length basis.now }
     ensures { result ≡ is_basic_of (elimination.basis_at basis.now j) }
@@ -90,7 +91,8 @@ fn is_basic_at(basis: &Basis, j: u32) -> bool
     is_basic(basis.at(j as usize))
 }
 
-// Solves the rows for each basic column of the basis, in order.
+// Solves the rows for each basic column of the basis, in order of their numbers; singular where one has no open
+// position, and refused where a number is past 127 bits.
 pub(crate) fn eliminate(
     grid: &mut Twins,
     basic: &mut [Option<u32>],

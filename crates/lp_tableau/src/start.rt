@@ -48,7 +48,7 @@ macro_rules! listed {
     }};
 }
 
-// The value of a row's logical at the start: the row's sum, or the limit that the sum misses.
+// The value of a row's logical at the start: the row's sum, or, where that misses a limit, this limit.
 fn logical_value(start: RowStart, lower: Option<Frac>, upper: Option<Frac>) -> Frac
     ensures { result ≡ starting.logical_value start lower upper }
 {
@@ -59,7 +59,7 @@ fn logical_value(start: RowStart, lower: Option<Frac>, upper: Option<Frac>) -> F
     }
 }
 
-// The status of a row's logical at the start: basic, or at the limit that the sum misses.
+// The status of a row's logical at the start: basic, or, where the row's sum misses a limit, nonbasic at this limit.
 fn logical_status(start: RowStart) -> Status
     ensures { result ≡ starting.logical_status start }
 {
@@ -70,7 +70,7 @@ fn logical_status(start: RowStart) -> Status
     }
 }
 
-// The status of a row's artificial at the start: basic where the row's sum misses a limit.
+// The status of a row's artificial at the start: basic where the row's sum misses a limit, else at its lower bound 0.
 fn artificial_status(start: RowStart) -> Status
     ensures { result ≡ starting.artificial_status start }
 {
@@ -80,7 +80,7 @@ fn artificial_status(start: RowStart) -> Status
     }
 }
 
-// The value of a row's artificial at the start: by how much the row's sum misses a limit.
+// The value of a row's artificial at the start: by how much the row's sum misses a limit, 0 where it misses none.
 fn artificial_value(start: RowStart) -> Frac
     ensures { result ≡ starting.artificial_value start }
 {
@@ -110,7 +110,7 @@ fn artificial_cost(start: RowStart) -> Frac
     }
 }
 
-// The entry of a row's logical in the row at the start: 1 or -1.
+// The entry of a row's logical in the row at the start: -1 where the row's sum is below its limits, else 1.
 fn logical_sign(start: RowStart) -> Frac
     ensures { result ≡ starting.logical_sign start }
 {
@@ -120,7 +120,8 @@ fn logical_sign(start: RowStart) -> Frac
     }
 }
 
-// The entry of a structural column in a row at the start: its coefficient, with the row's sign.
+// The entry of a structural column in a row at the start: its coefficient where the row's sum is below its limits, else
+// the negated coefficient.
 fn structural_entry(start: RowStart, coefficient: Frac) -> Frac
     ensures { result ≡ starting.structural_entry start coefficient }
 {
@@ -130,14 +131,15 @@ fn structural_entry(start: RowStart, coefficient: Frac) -> Frac
     }
 }
 
-// The value where the row is the column's own, and 0 in the other rows.
+// `v` where row `i` is the column's own row `r`, and 0 in the other rows.
 fn one_at(i: u32, r: u32, v: Frac) -> Frac
     ensures { result ≡ starting.one_at i r v }
 {
     if i == r { v } else { zero() }
 }
 
-// The entry of row `i` in column `k` at the start.
+// The entry of row `i` in column `k` at the start: of a structural column its negated coefficient, or its coefficient
+// where the row's sum is below its limits; of the row's own logical 1, or -1 there; of its own artificial 1; else 0.
 fn entry(form: &Form, coefficients: &Grid, starts: &[RowStart], i: u32, k: u32) -> Frac
     requires held { HoldsColumns form.now form.now.cols coefficients.now }
     requires row { i < form.now.rows }
@@ -155,7 +157,7 @@ fn entry(form: &Form, coefficients: &Grid, starts: &[RowStart], i: u32, k: u32) 
     )
 }
 
-// The basic column of row `i` at the start: its logical, or its artificial.
+// The basic column of row `i` at the start: its logical, or, where the row's sum misses a limit, its artificial.
 fn basic(form: &Form, starts: &[RowStart], i: u32) -> u32
     requires row { i < form.now.rows }
     requires starts { length starts.now ≡ form.now.rows }
@@ -168,7 +170,8 @@ fn basic(form: &Form, starts: &[RowStart], i: u32) -> u32
     }
 }
 
-// The value of column `k` at the start.
+// The value of column `k` at the start: of a structural column the bound at which it is, or 0; of a logical its row's
+// sum, or the limit that this misses; of an artificial by how much it misses one.
 fn value(form: &Form, starts: &[RowStart], k: u32) -> Frac
     requires column { k < form.now.cols + form.now.rows + form.now.rows }
     requires starts { length starts.now ≡ form.now.rows }
@@ -183,7 +186,8 @@ fn value(form: &Form, starts: &[RowStart], k: u32) -> Frac
     )
 }
 
-// The status of column `k` at the start.
+// The status of column `k` at the start: a structural column is at its lower bound, else at its upper one, else at 0.
+// Where a row's sum misses a limit, its logical is at this limit and its artificial basic; else its logical is basic.
 fn status(form: &Form, starts: &[RowStart], k: u32) -> Status
     requires column { k < form.now.cols + form.now.rows + form.now.rows }
     requires starts { length starts.now ≡ form.now.rows }
@@ -198,7 +202,7 @@ fn status(form: &Form, starts: &[RowStart], k: u32) -> Status
     )
 }
 
-// How many columns a row is kept over: all but the artificial ones.
+// How many structural and logical columns there are: a row is kept without the artificial ones.
 fn front(form: &Form) -> u32
     ensures value { result ≡ form.now.cols + form.now.rows }
     ensures bound { result ≤ 768 }
@@ -214,7 +218,7 @@ pub(crate) fn width(form: &Form) -> u32
     form.cols() + 2 * form.rows()
 }
 
-// Adds row `i` of the start to the block, without its artificial columns.
+// Adds row `i` of the start, without its artificial columns, behind the block, if there is memory.
 fn push_row(
     block: &mut Vec<Frac>,
     form: &Form,
@@ -233,7 +237,7 @@ fn push_row(
     Ok(())
 }
 
-// The rows of the start without artificial columns, one after the other.
+// The rows of the start without artificial columns, one after the other, if there is memory.
 fn block(
     alloc: Global,
     form: &Form,
@@ -251,7 +255,7 @@ fn block(
     Ok(block)
 }
 
-// Whether the row's artificial is the negative of its logical.
+// Whether the row's artificial is the negative of its logical: where the row's sum is below its limits.
 fn is_negative(start: RowStart) -> bool
     ensures { result ≡ is_below start }
 {
@@ -261,14 +265,14 @@ fn is_negative(start: RowStart) -> bool
     }
 }
 
-// For each row, whether its artificial is the negative of its logical.
+// For each row, whether its artificial is the negative of its logical. Memory may run out.
 fn turns(alloc: Global, starts: &[RowStart]) -> Result<Vec<bool>, AllocError>
     ensures { IfOk result (λ v. v.items ≡ map is_below starts.now) }
 {
     listed!(alloc, start in starts => is_negative(*start))
 }
 
-// The rows of the start, in which an artificial is kept as the twin of its logical.
+// The rows of the start, in which an artificial is kept as the twin of its logical. Memory may run out.
 pub(crate) fn rows(
     alloc: Global,
     form: &Form,
@@ -286,7 +290,8 @@ pub(crate) fn rows(
     Ok(Twins::from_grid(first, others, grid, turned))
 }
 
-/// The basic column of each position at the start.
+/// The basic column of each position at the start: its row's logical, or, where the row's sum misses a limit, its
+/// artificial. Memory may run out.
 pub fn basics(alloc: Global, form: &Form, starts: &[RowStart]) -> Result<Vec<u32>, AllocError>
     requires { length starts.now ≡ form.now.rows }
     ensures { IfOk result (λ v. v.items ≡ made form.now.rows (starting.start_basic form.now starts.now)) }
@@ -294,7 +299,8 @@ pub fn basics(alloc: Global, form: &Form, starts: &[RowStart]) -> Result<Vec<u32
     listed!(alloc, i in 0..form.rows() => basic(form, starts, i))
 }
 
-/// The value of each column at the start.
+/// The value of each column at the start: of the structural ones, then the logical ones, then the artificial ones.
+/// Memory may run out.
 pub fn values(alloc: Global, form: &Form, starts: &[RowStart]) -> Result<Vec<Frac>, AllocError>
     requires { length starts.now ≡ form.now.rows }
     ensures { IfOk result (λ v.
@@ -303,7 +309,8 @@ pub fn values(alloc: Global, form: &Form, starts: &[RowStart]) -> Result<Vec<Fra
     listed!(alloc, k in 0..width(form) => value(form, starts, k))
 }
 
-/// The status of each column at the start.
+/// The status of each column at the start: of the structural ones, then the logical ones, then the artificial ones.
+/// Memory may run out.
 pub fn statuses(alloc: Global, form: &Form, starts: &[RowStart]) -> Result<Vec<Status>, AllocError>
     requires { length starts.now ≡ form.now.rows }
     ensures { IfOk result (λ v.
@@ -312,7 +319,8 @@ pub fn statuses(alloc: Global, form: &Form, starts: &[RowStart]) -> Result<Vec<S
     listed!(alloc, k in 0..width(form) => status(form, starts, k))
 }
 
-/// The given bounds of structural and logical columns, and behind them the bound 0 for each artificial column.
+/// The given bounds of structural and logical columns, and behind them the bound 0 for each artificial column. Memory
+/// may run out.
 pub fn with_artificials(
     alloc: Global,
     bounds: &[Option<Frac>],
@@ -325,14 +333,14 @@ pub fn with_artificials(
     Ok(all)
 }
 
-/// The lower bound of each column, 0 for the artificials.
+/// The lower bound of each column, 0 for the artificials. Memory may run out.
 pub fn lowers(alloc: Global, form: &Form) -> Result<Vec<Option<Frac>>, AllocError>
     ensures { IfOk result (λ v. v.items ≡ form.now.lower ++ replicate form.now.rows (Some 0ℚ)) }
 {
     with_artificials(alloc, form.lowers(), form.rows())
 }
 
-/// The upper bound of each column. An artificial has 0, or none where its row's sum misses a limit.
+/// The upper bound of each column. An artificial has 0, or none where its row's sum misses a limit. Memory may run out.
 pub fn uppers(
     alloc: Global,
     form: &Form,
@@ -347,14 +355,15 @@ pub fn uppers(
     Ok(uppers)
 }
 
-// A list of `n` fractions that are all 0.
+// A list of `n` fractions that are all 0, if there is memory.
 pub(crate) fn zeros(alloc: Global, n: usize) -> Result<Vec<Frac>, AllocError>
     ensures { IfOk result (λ v. v.items ≡ replicate n 0ℚ) }
 {
     Vec::from_elem(alloc, zero(), n)
 }
 
-/// The costs of phase one.
+/// The costs of phase one: 1 for the artificial of each row whose sum misses a limit, and 0 for all other columns.
+/// Memory may run out.
 pub fn first_costs(alloc: Global, form: &Form, starts: &[RowStart]) -> Result<Vec<Frac>, AllocError>
     ensures { IfOk result (λ v. v.items ≡ starting.first_costs form.now starts.now) }
 {
@@ -365,7 +374,7 @@ pub fn first_costs(alloc: Global, form: &Form, starts: &[RowStart]) -> Result<Ve
     Ok(costs)
 }
 
-// The lists of the tableau by columns, without reduced costs.
+// The lists by columns of the start's tableau, with 0 for each reduced cost. Memory may run out.
 fn lists(alloc: Global, form: &Form, starts: &[RowStart]) -> Result<ColumnLists, AllocError>
     requires { length starts.now ≡ form.now.rows }
     ensures { IfOk result (λ l. AreLists l
@@ -384,7 +393,7 @@ fn lists(alloc: Global, form: &Form, starts: &[RowStart]) -> Result<ColumnLists,
     })
 }
 
-// The tableau without reduced costs.
+// The tableau that the form begins with, with 0 for each reduced cost. Memory may run out.
 fn begun(
     alloc: Global,
     form: &Form,
@@ -402,7 +411,8 @@ fn begun(
     Ok(Tableau::from_parts(height, cols, grid, basic, lists))
 }
 
-// The tableau with the reduced costs of phase one.
+// The tableau that the form begins with, with the reduced costs of phase one. Else why not: a number past 127 bits, or
+// no memory.
 fn priced(
     alloc: Global,
     form: &Form,
@@ -425,7 +435,8 @@ fn priced(
     }
 }
 
-/// The start of each row, in order, where each structural column is at its first bound.
+/// How each row's sum stands, in order, where each structural column is at its lower bound, else at its upper one, else
+/// at 0: within the row's limits, or how far below or above them. Else why not: a number past 127 bits, or no memory.
 pub fn starts(alloc: Global, form: &Form) -> Result<Vec<RowStart>, ColdStop>
     ensures ok { IfOk result (λ v. list_run form.now.rows (starting.row_start (Some number_limit) form.now) ≡ Ok
         v.items) }
@@ -435,7 +446,8 @@ pub fn starts(alloc: Global, form: &Form) -> Result<Vec<RowStart>, ColdStop>
     row_starts(alloc, form, &coefficients)
 }
 
-/// The tableau that the form begins with, with the reduced costs of phase one.
+/// The tableau that the form begins with, with the reduced costs of phase one. Else why not: a number past 127 bits, or
+/// no memory.
 ///
 /// Each structural column is at its lower bound, else at its upper one, else at 0. Row by row,
 /// the logical is basic where its row's sum is then within the row's limits; else the logical stands

@@ -72,7 +72,8 @@ impl Drop for Tableau {
 }
 
 impl Tableau {
-    // The tableau of these parts.
+    // The tableau of so many rows and structural columns, with these rows of entries, basic columns by position, and
+    // lists by column.
     pub(crate) fn from_parts(
         rows: u32,
         cols: u32,
@@ -98,7 +99,7 @@ impl Tableau {
         }
     }
 
-    /// How many positions there are.
+    /// How many positions there are, as many as rows of the form.
     pub fn rows(&self) -> u32
         ensures value { result ≡ self.now.rows }
         ensures bound { result ≤ 256 }
@@ -114,7 +115,8 @@ impl Tableau {
         self.cols
     }
 
-    /// How many columns there are, and so how many items each list of columns has.
+    /// How many columns there are, structural, logical and artificial ones together, and so how many items each list of
+    /// columns has.
     pub fn width(&self) -> u32
         ensures value { result ≡ all_columns self.now }
         ensures shape { IsTableauShape self.now }
@@ -122,7 +124,7 @@ impl Tableau {
         self.cols + 2 * self.rows
     }
 
-    /// The entry of a position's row in column `col`.
+    /// The entry of a position's row in column `col`, which may be structural, logical or artificial.
     pub fn entry(&self, position: u32, col: u32) -> Frac
         requires place_in_range { position < self.now.rows }
         requires col_in_range { col < all_columns self.now }

@@ -59,7 +59,8 @@ impl Twins {
         item(&self.grid, self.first, self.others, &self.turned, i, k)
     }
 
-    // Turns all rows so that the pivot's column has 1 in the row of its position and 0 in all other rows.
+    // Pivots all rows: afterwards the pivot's column has 1 in the row of its position and 0 in all other rows. Refused
+    // where a number is past 127 bits.
     pub(crate) fn turn(&mut self, height: u32, width: u32, at: Pivot) -> Result<(), Past>
         requires shape { IsGrid height width self.old }
         requires place { at.position < height }
