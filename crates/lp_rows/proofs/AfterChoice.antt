@@ -114,6 +114,8 @@ module _ (t : Tableau) (w : IsWhole t) (f : Matrix) (cost : ℕ → ℚ)
         by None p d = flips_to x h p u d
         by (Some i) p d = pivots_to x h i p u d
 
+  -- where the tableau t chooses a flip or a pivot, and doing it without a limit gives u, u is t after that flip or
+  -- pivot
   pub left : (choice : Choice ℚ) → choice_run None t ≡ Ok choice → (u : Tableau) → done_run None t choice ≡ Ok u →
       LeavesBy b t u choice
   unfolding choice_run

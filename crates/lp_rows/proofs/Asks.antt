@@ -5,9 +5,10 @@
 -- `zero-over`: the test whether a magnitude is 0 tells whether the number over a positive denominator is 0.
 -- `at-zero`: the test whether a position's last number is 0 tells whether the basic column's value is 0.
 -- `some_artificial`: an artificial column is basic in the rows just where one is in the tableau that they show.
--- `not_yet`: where none of the first i basic columns and not the next is an artificial other than 0, none of i + 1
---   is.
--- `none_wanting`: where no basic column is an artificial other than 0, phase one does not leave the tableau stuck.
+-- `not_yet`: where neither the first i basic columns nor that of position i is an artificial other than 0, none of the
+--   first i + 1 is.
+-- `none_wanting`: where none of the first i basic columns is an artificial other than 0, and i is at least the number
+--   of rows, the tableau is not stuck after phase one.
 use Rattle.std.proofs.Common.{◌≡◌, ◌↔◌, ℕ, zero, suc, ◌+◌, ◌*◌, ◌<◌, ◌≤◌, nat_le, List, [], ◌∷◌, length, get_or}
 use Rattle.std.proofs.Common.{Bool, true, false, not, ◌&&◌, ◌||◌, IsTrue, ℤ, pos, ◌*ℤ◌, unsigned_abs, refl}
 use Rattle.std.proofs.Common.{sym, ap, ap₂, subst, ◌∙◌, arith}

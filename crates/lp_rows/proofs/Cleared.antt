@@ -4,7 +4,8 @@
 -- `whole-times`: where b * g is s, the number of magnitude s is the number of magnitude b, with that sign, times g.
 -- `below_gives`: a number that was made of n, which is within the width, has the value n.
 -- `over_neg`: the negative of t over a positive denominator is the negative of the fraction.
--- `cleared`: where each number is a times the old one less b times the other row's, the row is cleared by its entry.
+-- `cleared`: where each number k is a * old k - b * other k, over d * a, the new row is the old one less the other row
+--   times the old row's fraction in column j. (a * g is the other's denominator, b * g the old number j.).
 -- `written`: a list that was lent whole and written back is the list that was written.
 -- `cleared_written`: what `cleared` says, of rows that were lent whole and written back.
 use Rattle.std.proofs.Common.{◌≡◌, ℕ, zero, suc, ◌*◌, ◌<◌, ℤ, pos, negsuc, neg_ℤ, ◌*ℤ◌, ◌-ℤ◌, List, [], ◌∷◌, ◌++◌}
@@ -50,7 +51,7 @@ over_neg t d q =
     one_times : (d : ℕ) → d ≡ 1 * d
     one_times d = omega arith
 
--- n / d less t / d times p / e
+-- with e = a * g and t = b * g, (a * n - b * p) / (d * a) is n / d - (t / d) * (p / e)
 off : (n t p b : ℤ) (d e a g : ℕ) → 0 < d → 0 < e → a * g ≡ e → t ≡ b *ℤ pos g →
     over (pos a *ℤ n -ℤ b *ℤ p) (d * a) ≡ over n d -ℚ over t d *ℚ over p e
 off n t p b d e a g q r f h =

@@ -1,9 +1,12 @@
 -- A row over one of its entries, and a row without a common divisor, from the numbers that each call gives.
 --
--- `turned-whole`: a number whose sign is turned where asked for is the number, or its negative.
+-- `turned-whole`: where the sign of a number of magnitude n is changed just if `is_turned`, the number is negated just
+--   then.
 -- `by_inverse`: where z is the inverse of y, a product with z is one with the inverse of y.
--- `divided`: where each number takes the entry's sign, over the entry's magnitude, the row is divided by its entry.
--- `without`: where each number times g is the old one, and so is the denominator, the fractions are as they were.
+-- `divided`: where each number is the old one, negated if the old number j is negative, and the denominator is the
+--   magnitude of number j, the row is the old one divided by its entry in column j.
+-- `without`: where each number times g is the old one, and the denominator e times g is the old one, the fractions are
+--   as they were.
 -- `narrow_fraction`: the fraction of both parts over a common divisor, if it is within 127 bits, is that of the
 --   parts.
 use Rattle.std.proofs.Common.{◌≡◌, ◌≢◌, ℕ, ◌*◌, ◌<◌, ℤ, pos, ◌*ℤ◌, List, [], ◌∷◌, ◌++◌, length, Bool, true, false}
@@ -31,7 +34,8 @@ turned-whole true false n = refl
 turned-whole false true n = refl
 turned-whole false false n = refl
 
--- of a list that was lent and written
+-- where a list was lent whole, and the written list has the fractions f over m, so has the list after it is written
+-- back
 now_written : {T : Type 0} (value : T → ℕ) (f : ℕ → ℚ) (old new row : List (Signed T)) (m size : ℕ) → row ≡ old →
     length row ≡ size → AreNow value f (length old) new m →
     AreNow value f (length old) (take size (new ++ drop (length new) old)) m
@@ -59,18 +63,18 @@ by_inverse x y z e =
     ∙ ap (λ u. x *ℚ inverse y *ℚ u) e
     ∙ *ℚ_one (x *ℚ inverse y)
 
--- s with a sign, times d turned by that sign, is d * s
+-- s with the sign b, times d negated if b is set, is d * s
 turned_square : (b : Bool) (d s : ℕ) → whole b s *ℤ turned_if b (pos d) *ℤ pos 1 ≡ pos 1 *ℤ pos (d * s)
 turned_square true d s =
     by_ring (pos s ∷ pos d ∷ []) (minus v0 ⊗ minus v1 ⊗ lit (pos 1)) (lit (pos 1) ⊗ (v1 ⊗ v0)) refl
 turned_square false d s = by_ring (pos s ∷ pos d ∷ []) (v0 ⊗ v1 ⊗ lit (pos 1)) (lit (pos 1) ⊗ (v1 ⊗ v0)) refl
 
--- n turned by a sign, times d * s, is n times d turned by that sign, times s
+-- (n, negated if b) * (d * s) is n * (d, negated if b) * s
 turned_cross : (b : Bool) (n : ℤ) (d s : ℕ) → turned_if b n *ℤ pos (d * s) ≡ n *ℤ turned_if b (pos d) *ℤ pos s
 turned_cross true n d s = by_ring (n ∷ pos d ∷ pos s ∷ []) (minus v0 ⊗ (v1 ⊗ v2)) (v0 ⊗ minus v1 ⊗ v2) refl
 turned_cross false n d s = by_ring (n ∷ pos d ∷ pos s ∷ []) (v0 ⊗ (v1 ⊗ v2)) (v0 ⊗ v1 ⊗ v2) refl
 
--- n / d over t / d, of which t has the sign b and the magnitude s
+-- where t has the sign b and the magnitude s, n / d over t / d is (n, negated if t is negative) / s
 over_entry : (b : Bool) (n : ℤ) (d s : ℕ) → 0 < d → 0 < s →
     over (turned_if b n) s ≡ over n d *ℚ inverse (over (whole b s) d)
 over_entry b n d s p q =

@@ -13,12 +13,14 @@ use Rattle.lp_natural.specs.declared.words.signed.Signed.{Signed}
 use Rattle.lp_rows.specs.Row.{at}
 
 module _ {T : Type 0} (value : T → ℕ) where
+  -- where item k of a list of numbers is set, number k is the one that was set
   pub at-set_same : (xs : List (Signed T)) (k : ℕ) (x : Signed T) → k < length xs →
       at value (set xs k x) k ≡ whole x.negative (value x.size)
   at-set_same [] k x h = absurd (omega arith)
   at-set_same (y ∷ xs) zero x h = refl
   at-set_same (y ∷ xs) (suc k) x h = at-set_same xs k x (omega (arith, h))
 
+  -- where item k of a list of numbers is set, each other number j is as it was
   pub at-set_other : (xs : List (Signed T)) (k j : ℕ) (x : Signed T) → j ≢ k → at value (set xs k x) j ≡ at value xs j
   at-set_other [] k j x h = refl
   at-set_other (y ∷ xs) zero zero x h = absurd (h refl)
@@ -26,6 +28,7 @@ module _ {T : Type 0} (value : T → ℕ) where
   at-set_other (y ∷ xs) (suc k) zero x h = refl
   at-set_other (y ∷ xs) (suc k) (suc j) x h = at-set_other xs k j x (λ e. h (ap suc e))
 
+  -- number k inside a list is the number that is read there
   pub item-at : (xs : List (Signed T)) (k : ℕ) (x : Signed T) → k < length xs → x ≡ get_or xs k x →
       at value xs k ≡ whole x.negative (value x.size)
   item-at [] k x h e = absurd (omega arith)

@@ -169,6 +169,7 @@ module _ {T : Type 0} (value : T → ℕ) (r s : RowTableau T) (t u : Tableau) (
       ∙ ap₂ (λ v w. cond (nat_eq k j) (other_bound v) w) up_is (status_is k)
       ∙ sym (status_at_is k))
 
+  -- where the rows r show t, and a flip takes r to s and t to u, the rows s show u
   pub flip_shows : Shows value s u
   flip_shows = record {
     rows = d.rows.len ∙ shows.rows ∙ sym x.leaves.rows;

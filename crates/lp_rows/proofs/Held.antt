@@ -74,6 +74,8 @@ module _ {T : Type 0} (value : T → ℕ) (t : Tableau) (r : RowTableau T) (shap
       sym (length-map xs (bound_of value (value r.denominator))) ∙ ap (λ (ys : List (Option ℚ)). length ys) e
       ∙ length-made (all_columns t) f ∙ sym same_all
 
+  -- rows that hold the parts of a tableau are a whole tableau of rows: each list has its length, and each denominator
+  -- is above 0
   pub held_whole : IsWhole value r
   held_whole = record {
     few_rows = omega (arith, h.rows.len, shape.few_rows);
@@ -98,6 +100,7 @@ module _ {T : Type 0} (value : T → ℕ) (t : Tableau) (r : RowTableau T) (shap
       sym (get_or-made (all_columns t) f k None l) ∙ sym (ap (λ ys. get_or ys k None) e)
       ∙ get_or-map (bound_of value (value r.denominator)) xs k None
 
+  -- rows that hold the parts of a tableau that a run reaches show this tableau
   pub held_shown : IsReached t → Shows value r t
   held_shown reached = record {
     rows = h.rows.len;

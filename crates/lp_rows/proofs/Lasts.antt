@@ -45,11 +45,14 @@ over-product : (n m : ℤ) (e : ℕ) → 0 < e → over (n *ℤ m) e ≡ over n 
 over-product n m e p = ap (over (n *ℤ m)) (sym (mul-one e)) ∙ sym (over-* n m e 1 p (omega arith))
 
 module _ {T : Type 0} (value : T → ℕ) where
+  -- number k of a row, as a fraction, is its whole number k over the row's denominator
   number-at : (row : Row T) (k n : ℕ) → IsRow value n row → k < n + 1 →
       number_at value row k ≡ over (at value row.numbers.items k) (value row.denominator)
   number-at row k n r h = fraction-at value row.numbers.items (value row.denominator) k (omega (arith, h, r.numbers))
 
   -- ---- the last number
+  -- where the last whole number of a row becomes x - a * b, the row is the old one with its last entry less by a * b
+  -- over the denominator
   pub less_is : (n : ℕ) (old new : Row T) (x last : Signed T) (one : ℕ) (a b : ℤ) → IsRow value n old →
       new.numbers.items ≡ set old.numbers.items n last → new.denominator ≡ old.denominator →
       x ≡ get_or old.numbers.items n x → one ≡ 1 →
@@ -83,11 +86,14 @@ module _ {T : Type 0} (value : T → ℕ) where
             ∙ sym (number-at old n n r (omega arith)));
       }
 
+  -- a row whose last entry is less by a * d over d, its denominator, has it less by a
   pub less_whole : (n : ℕ) (old new : Row T) (a : ℤ) → IsRow value n old →
       IsLess value n (over (a *ℤ pos (value old.denominator)) (value old.denominator)) old new →
       IsLess value n (over a 1) old new
   less_whole n old new a r l = subst (λ v. IsLess value n v old new) (over-whole a (value old.denominator) r.positive) l
 
+  -- a row whose last entry is less by its whole number j times a, over its denominator, has it less by its entry j
+  -- times a
   pub less_times : (n j : ℕ) (old new : Row T) (x : Signed T) (a : ℤ) → IsRow value n old → j < n →
       x ≡ get_or old.numbers.items j x →
       IsLess value n (over (whole x.negative (value x.size) *ℤ a) (value old.denominator)) old new →
@@ -101,6 +107,7 @@ module _ {T : Type 0} (value : T → ℕ) where
       ∙ sym (number-at old j n r (omega (arith, h))))) l
 
   -- ---- a row without as much of another
+  -- a row whose number j is 0 is itself the row cleared in column j
   pub clear_already : (n j : ℕ) (own row : Row T) (x : Signed T) → IsRow value n row → j < n →
       x ≡ get_or row.numbers.items j x → value x.size ≡ 0 → IsCleared value n j own row row
   clear_already n j own row x r h e z =
@@ -152,6 +159,8 @@ module _ {T : Type 0} (value : T → ℕ) where
   abbrev pub cleared_at : ℕ → Row T → List (Row T) → ℕ → ℕ → ℚ
   cleared_at j own old i k = number_in value old i k -ℚ number_in value old i j *ℚ number_at value own k
 
+  -- where the first `done` rows are cleared in column j, and the next one is set to itself cleared, the first `done` +
+  -- 1 are
   pub one_cleared : (n j done : ℕ) (own : Row T) (old new : List (Row T)) (z cleared : Row T) →
       AreSoFar n done (cleared_at j own old) old new → done < length new →
       IsCleared value n j own (get_or new done z) cleared →
@@ -167,6 +176,8 @@ module _ {T : Type 0} (value : T → ℕ) where
   moved_at n j v old i k =
       cond (nat_eq k n) (number_in value old i n -ℚ number_in value old i j *ℚ v) (number_in value old i k)
 
+  -- where the first `done` rows are moved by v times their entry j, and the next one is set to itself moved, the first
+  -- `done` + 1 are
   pub one_moved : (n j done : ℕ) (v : ℚ) (old new : List (Row T)) (z moved : Row T) →
       AreSoFar n done (moved_at n j v old) old new → done < length new →
       IsLess value n (number_at value (get_or new done z) j *ℚ v) (get_or new done z) moved →

@@ -46,6 +46,7 @@ module _ {T : Type 0} (value : T → ℕ) (r s : RowTableau T) (t u : Tableau) (
       (choice.Pivot p j theta to) h u d)
       t.rows t.cols steps.after whole shows f
 
+  -- where the step that t chooses is the flip of j, and doing it gives u, rows with this flip done show u
   pub flip_made : (j : ℕ) (step : Step) (c : Choice ℚ) → step ≡ Flip j → choice_run None t ≡ Ok c → step_of c ≡ step →
       done_run None t c ≡ Ok u → IsFlipped value j r s → Shows value s u
   flip_made j step (choice.End end) e h k d f = let z : End end ≡ Flip j = k ∙ e in cc
@@ -55,6 +56,7 @@ module _ {T : Type 0} (value : T → ℕ) (r s : RowTableau T) (t u : Tableau) (
       flip_is i h d (subst (λ j. IsFlipped value j r s) (sym same) f)
   flip_made j step (choice.Pivot p i theta to) e h k d f = let z : Pivot p i to ≡ Flip j = k ∙ e in cc
 
+  -- where the step that t chooses is the pivot at p and j, and doing it gives u, rows with this pivot done show u
   pub pivot_made : (p j : ℕ) (to : Status) (step : Step) (c : Choice ℚ) → step ≡ Pivot p j to →
       choice_run None t ≡ Ok c → step_of c ≡ step → done_run None t c ≡ Ok u → IsPivoted value p j to r s →
       Shows value s u

@@ -31,7 +31,7 @@ use Rattle.lp_rows.proofs.TableauKept.{stood, lower_same, upper_same, fixed_same
 use Rattle.lp_rows.proofs.TableauNumbers.{row_at-one, row_at-on}
 use Rattle.lp_rows.proofs.FlippedRows.{along, less_on}
 
--- how far the column moves: n c is the value of the column that leaves, and v c that where it lands
+-- where n * c is x, v * c is x - a * theta, and a is not 0, (n - v) / a * c is theta: how far the column moves
 moves_by : (n v a c x y theta : ℚ) → n *ℚ c ≡ x → v *ℚ c ≡ y → y ≡ x -ℚ a *ℚ theta → a ≢ 0ℚ →
     (n -ℚ v) *ℚ inverse a *ℚ c ≡ theta
 moves_by n v a c x y theta e h l d =
@@ -287,6 +287,7 @@ module _ {T : Type 0} (value : T → ℕ) (r s : RowTableau T) (t u : Tableau) (
   heights : height s ≡ u.rows
   heights = d.rows.len ∙ shows.rows ∙ sym x.leaves.rows
 
+  -- where the rows r show t, and a pivot takes r to s and t to u, the rows s show u
   pub pivot_shows : Shows value s u
   pivot_shows = record {
     rows = heights;

@@ -2,7 +2,8 @@
 --
 -- `by_some`: where P implies Q, an optional item that has P, if it is there, has Q.
 -- `stays`: a position whose entry is 0 leaves the best ratio as it was.
--- `between`: the entering column may move from one bound to the other by their difference on the denominator.
+-- `between`: the ratio that the entering column's own bounds u / d and l / d give is (u - l) / d, which ends at the
+--   other bound.
 -- `chosen_by`: where the ratio test gives `best`, the step for the entering column is the one that `best` makes.
 -- `goes_none`: an artificial column may enter in no direction.
 -- `stop_more`: a stop that names no position is a stop of any number of positions.
@@ -59,7 +60,7 @@ by_some (Some a) P Q f h = f a h
 
 -- ---- an entry of 0
 
--- where the magnitude of an entry is 0, the comparison of the entry with 0 says equal, turned or not
+-- an entry of magnitude 0, with whatever sign, in either direction of the column, compares as equal with 0
 no_sign : (way : Way) (b : Bool) (size : ℕ) → size ≡ 0 → Equal ≡ int_cmp (toward way (whole b size)) (pos 0)
 no_sign way b size e =
     subst (λ n. Equal ≡ int_cmp (toward way (whole b n)) (pos 0)) (sym e) (by way b)
@@ -103,6 +104,7 @@ module _ {T : Type 0} (value : T → ℕ) (r : RowTableau T) (t : Tableau) (show
   number_is : (k : ℕ) → number_in value r.rows.items i k ≡ number_at value row k
   number_is k = number_in-get value r.rows.items i k row place ∙ ap (λ z. number_at value z k) (sym row_is)
 
+  -- at position i, the step of the ratio test over t is `best_at` of the entry, bounds and value that are read of row i
   pub position_is : (col : ℕ) (z : ℕ) → col ≡ get_or r.basic.items i z → (entry last : Signed T) →
       entry ≡ get_or row.numbers.items e.col entry → last ≡ get_or row.numbers.items (width r) last →
       (lower upper : Option (Signed T)) (lz uz : Option (Signed T)) → lower ≡ get_or r.lower.items col lz →

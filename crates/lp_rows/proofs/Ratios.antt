@@ -2,7 +2,8 @@
 --
 -- `ratio_is`: g / (d * e) over the magnitude s / e of an entry is g / (d * s).
 -- `stops`: a position with the gap g / (d * e) is compared with the best one before it by the ratio g / (d * s).
--- `gap_run_is`: the gap of the ratio test is the gap by the sign of the entry, turned as the column moves.
+-- `gap_run_is`: where o is the sign of n in the column's direction, the gap of the ratio test for the entry n / e is
+--   the gap by o.
 use Rattle.std.proofs.Common.{◌≡◌, ℕ, ◌*◌, ◌<◌, ℤ, pos, neg_ℤ, ◌*ℤ◌, [], ◌∷◌, refl, sym, ap, subst, ◌∙◌, arith, Bool}
 use Rattle.std.proofs.Common.{true, false, Option, Some, None, Ok, cond, ap₂, int_cmp, Ordering, Less, Equal}
 use Rattle.std.proofs.Common.{Greater}
@@ -75,7 +76,8 @@ stops g d e s b i k to best p q r =
     (ap (told Div (over g (d * e)) (abs_ℚ (over (whole b s) e)))
     (div_unlimited (over g (d * e)) (abs_ℚ (over (whole b s) e)) ∙ ap (λ (z : ℚ). Some z) (ratio_is g d e s b p q r)))
 
--- the gap, by the sign of the entry as the column goes
+-- where o is the sign of the entry d, the gap by o is the one by comparing d with 0: that to the upper bound if d is
+-- below 0, to the lower if above, and none if d is 0
 gap_at : (d : ℚ) (o : Ordering) (lower upper : Option ℚ) (v : ℚ) → o ≡ sign d →
     cond (lt_ℚ d 0ℚ) (rise_run None upper v) (cond (lt_ℚ 0ℚ d) (fall_run None lower v) (Ok None)) ≡
     gap_by o lower upper v

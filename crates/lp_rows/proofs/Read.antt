@@ -5,7 +5,8 @@
 -- `entry_is`: a number that was read of a position's row is the entry of the tableau that the rows show.
 -- `moved_here`: where column k is basic at position i, the positions up to i move it by minus the directed entry.
 -- `moved_elsewhere`: where column k is not basic at position i, that position does not move it.
--- `moved_all`: how all positions move a column is how it moves along the ray.
+-- `moved_all`: where i is the number of positions, how column k moves by the positions below i is how it moves along
+--   the ray.
 -- `listed_is`: a number of a list that is made of a fraction is the one made of an equal fraction.
 -- `all_made`: a list of n items is one of m where n is m.
 -- `by_end`: the certificate of an end is that of an equal end.
@@ -104,13 +105,14 @@ pub listed_is : {N E : Type 0} (of : ℚ → N) (p q : ℚ) (o : Result (Option 
 listed_is of p q o e h = subst (λ q. IfOk o (λ o. IfSome o (λ n. n ≡ of q))) e h
 
 module _ {N : Type 0} (old new : List N) (v : N) (pushed : new ≡ old ++ v ∷ []) where
-  -- one number more
+  -- where a list is made of f's first k items, and a number that is f k is pushed, the list is made of the first k + 1
   pub one_more : (f : ℕ → N) (k : ℕ) (o : Option N) → o ≡ Some v → old ≡ made k f → IfSome o (λ n. n ≡ f k) →
       new ≡ made (k + 1) f
   one_more f k o is before h =
       pushed ∙ ap₂ (λ xs x. xs ++ x ∷ []) before (of_some (λ n. n ≡ f k) o v is h)
       ∙ sym (ap (λ n. made n f) (add-one k))
 
+  -- where P holds of each item of a list, and of the number that is pushed, P holds of each item of the longer list
   pub all_more : (P : N → Type 0) (o : Option N) → o ≡ Some v → All P old → IfSome o P → All P new
   all_more P o is before h =
       subst (All P) (sym pushed)

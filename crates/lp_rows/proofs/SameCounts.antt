@@ -41,7 +41,7 @@ whole_on n d p =
     once : (d : ℕ) → 1 * d ≡ d
     once d = omega arith
 
--- n over d, turned as the column moves, is n turned so over d
+-- n, negated if the column falls, over d, is n / d, negated if the column falls
 directed_on : (way : Way) (n : ℤ) (d : ℕ) → 0 < d → over (toward way n) d ≡ directed way (over n d)
 directed_on Up n d p = refl
 directed_on Down n d p = over_neg n d p
@@ -57,6 +57,7 @@ range_on way d by range u l upper lower p e f h k =
     ∙ ap (directed way) (ap (λ z. over z d) f ∙ sym (together u l d p) ∙ ap₂ (λ x y. x -ℚ y) h k)
 
 module _ {T : Type 0} (value : T → ℕ) (r s : RowTableau T) (w : IsWhole value r) where
+  -- where a flip moves the last numbers of rows and sets one status, a whole tableau of rows stays whole
   pub whole_flipped : (j : ℕ) (v : ℚ) → AreMoved value (width r) j v r.rows.items s.rows.items → s.cols ≡ r.cols →
       s.costs ≡ r.costs → s.basic ≡ r.basic → length s.status.items ≡ length r.status.items → s.lower ≡ r.lower →
       s.upper ≡ r.upper → s.fixed ≡ r.fixed → s.denominator ≡ r.denominator → IsWhole value s
@@ -80,6 +81,8 @@ module _ {T : Type 0} (value : T → ℕ) (r s : RowTableau T) (w : IsWhole valu
         positive = subst (λ d. 0 < value d) (sym denominator) w.positive;
       }
 
+  -- where a pivot turns the rows and costs, and sets one basic column and as many statuses and bounds as before, a
+  -- whole tableau of rows stays whole
   pub whole_pivoted : (p j : ℕ) (v x : ℚ) →
       AreTurned value (width r) p j v x r.rows.items s.rows.items r.costs s.costs →
       j < width r → s.cols ≡ r.cols → s.basic.items ≡ set r.basic.items p j →
@@ -123,9 +126,12 @@ module _ {T : Type 0} (value : T → ℕ) (r s : RowTableau T) (w : IsWhole valu
   status_read : (k : ℕ) (x z : Status) → k < all_width r → x ≡ get_or r.status.items k z → x ≡ status_in r k
   status_read k x z h e = e ∙ get_or_default r.status.items k z Basic (omega (arith, h, w.all_statuses))
 
+  -- the basic column that is read at position p is the one that `basic_in` gives for p
   pub basic_read : (p q z : ℕ) → p < height r → q ≡ get_or r.basic.items p z → q ≡ basic_in r p
   basic_read p q z h e = e ∙ get_or_default r.basic.items p z 0 (omega (arith, h, w.all_basic))
 
+  -- where the last numbers are moved by column j's distance between its bounds, and its status is set to the other
+  -- bound, the rows s are r after the flip of j
   pub flipped_is : (j n : ℕ) (lent new : List (Row T)) (way : Way) (by range u l : ℤ) (st sz to : Status)
       (upper lower uz lz : Option (Signed T)) → j < width r → n ≡ width r → lent ≡ r.rows.items →
       AreMoved value n j (over by 1) lent new → s.rows.items ≡ new → st ≡ get_or r.status.items j sz →
@@ -162,6 +168,8 @@ module _ {T : Type 0} (value : T → ℕ) (r s : RowTableau T) (w : IsWhole valu
         rows = moved;
       }
 
+  -- where the rows were turned for column j at position p, and the basic column, the statuses and the bound are set to
+  -- match, the rows s are r after that pivot
   pub pivoted_is : (p j n q : ℕ) (to st sz : Status) (lent new : List (Row T)) (costs : Row T) (u v : ℤ)
       (lower upper lower' upper' z1 z2 z3 z4 : Option (Signed T)) → p < height r → j < width r → n ≡ width r →
       lent ≡ r.rows.items → q ≡ basic_in r p → st ≡ get_or r.status.items j sz →

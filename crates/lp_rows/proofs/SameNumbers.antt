@@ -98,6 +98,7 @@ module _ {T U : Type 0} (value : T → ℕ) (wide : U → ℕ) where
         sym (length-map ys (option_map (whole_of wide))) ∙ ap (λ (zs : List (Option ℤ)). length zs) e
         ∙ length-map xs (option_map (whole_of value)) ∙ l ∙ sym same_all
 
+    -- rows with the same numbers in other words are a whole tableau of rows where the first are
     pub same_whole : IsWhole value r → IsWhole wide s
     same_whole w = record {
       few_rows = omega (arith, same_height, w.few_rows);
@@ -137,6 +138,7 @@ module _ {T U : Type 0} (value : T → ℕ) (wide : U → ℕ) where
         ∙ ap (λ (p : List ℤ × ℕ). get_or (map (λ z. over z p.1) p.0) k 0ℚ) (sym same.costs)
         ∙ sym (ap (λ xs. get_or xs k 0ℚ) (fractions_wholes wide s.costs.numbers.items (wide s.costs.denominator)))
 
+    -- rows with the same numbers in other words show each tableau that the first show
     pub same_shown : (t : Tableau) → Shows value r t → Shows wide s t
     same_shown t shown = record {
       rows = same_height ∙ shown.rows;

@@ -126,6 +126,8 @@ module _ {T : Type 0} (value : T → ℕ) (r : RowTableau T) (costs : Row T) (s 
           ∙ ap₂ (λ x y. stand (status_at t k) x y) (sym (same_lower k l n)) (sym (same_upper k l n));
     }
 
+    -- where rows show t, and their costs are made the form's reduced costs and the artificial bounds 0, they show the
+    -- tableau with which phase two begins
     pub begun_shown : (form : Form) (u : Tableau) → IsPricedRow value r form.cost costs →
         phase_two_run None form t ≡ Ok u → Shows value s u
     unfolding phase_two_run

@@ -1,6 +1,7 @@
 -- What tableaus of one phase have in common: the values of nonbasic columns, and the bounds.
 --
--- `stood`: a nonbasic column of such a tableau has the value that its status and bounds give.
+-- `stood`: in a tableau of given equations, costs and bounds, a nonbasic column has the value that its status and its
+--   own bounds give.
 -- `lower_same`: two tableaus of a phase have the same lower bounds.
 -- `upper_same`: two tableaus of a phase have the same upper bounds of structural and logical columns.
 -- `fixed_same`: two tableaus of a phase have the same fixed columns among the structural and logical ones.
@@ -21,7 +22,8 @@ one_upper : (u : Option ℚ) (v x : ℚ) → (u ≡ None) ⊎ (u ≡ Some v) →
 one_upper u v x o e =
     ⊎_elim (λ (n : u ≡ None). let z : None ≡ Some x = sym n ∙ e in cc) (λ (n : u ≡ Some v). cc) o
 
--- a column that is not basic, by the bounds of a tableau; lb and ub are those of all tableaus of the phase
+-- a nonbasic column that stands by the bounds lb and ub of the phase has the value that its status and its own bounds l
+-- and u give, where u is ub, or is 0 and ub is none or 0
 stands_by : (s : Status) (l u lb ub : Option ℚ) (v : ℚ) → s ≢ Basic → l ≡ lb → (u ≡ ub) ⊎ ((u ≡ Some 0ℚ)
     × ((ub ≡ None) ⊎ (ub ≡ Some 0ℚ))) → Stands s lb ub v → v ≡ stand s l u
 stands_by Basic l u lb ub v n e o h = absurd (n refl)

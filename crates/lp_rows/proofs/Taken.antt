@@ -1,8 +1,10 @@
 -- Costs less rows of a tableau: the reduced costs.
 --
 -- `nothing_off`: a is a - 0 * b.
--- `taken_off`: clearing costs by the row of a position takes it off as often as the cost of its basic column says.
--- `none_off`: where the basic column is artificial, costs that stay are less its row as often as its cost of 0 says.
+-- `taken_off`: clearing the costs by the row of a position, in the position's basic column, makes them less that row
+--   times the cost of the basic column.
+-- `none_off`: where the basic column of position i is artificial, costs that stay as they are are less row i times the
+--   column's cost of 0.
 -- `none_yet`: before any row is taken off, the costs are less the first 0 rows.
 -- `one_more`: costs less the first i rows, less row i as its basic column's cost says, are less the first i + 1.
 -- `priced_row`: the form's costs less all rows are the reduced costs of the form's costs.
@@ -97,7 +99,8 @@ no_entry : (t : Tableau) → IsUnit t.rows (entry_at t) (basic_at t) → (i r : 
 no_entry t units i r l m n =
     units i r l m ∙ ap (λ c. cond c 1ℚ 0ℚ) (ne_eqb i r n)
 
--- the cost that a basic column had first
+-- in costs less the rows of the first i positions, the basic column of position i has the cost that it had before any
+-- row was taken off
 first_cost : {T : Type 0} (value : T → ℕ) (r : RowTableau T) (i b : ℕ) (old mid : Row T) (t : Tableau) →
     IsUnit t.rows (entry_at t) (basic_at t) → Shows value r t → i < height r → (cost : ℕ → ℚ) → ((k : ℕ) → width r ≤ k → cost k ≡ 0ℚ) → basic_at t i ≡ b →
     ((k : ℕ) → k < width r →

@@ -2,8 +2,8 @@
 --
 -- `whole_none`: a number of magnitude 0 is 0.
 -- `once`: where u is 1, u * v - w is v - w.
--- `less_none`: where the other number is 0, v is v less any multiple of it.
--- `both_none`: where both numbers are 0, the first is any multiple of it less any multiple of the other.
+-- `less_none`: where y is 0, v is v - b * y, with whatever sign of y.
+-- `both_none`: where x and y are 0, x is u * x - b * y, with whatever signs of x and y.
 use Rattle.std.proofs.Common.{◌≡◌, ℕ, ℤ, pos, ◌*ℤ◌, ◌-ℤ◌, [], ◌∷◌, Bool, true, false, refl, sym, ap, ◌∙◌}
 use Rattle.spec_exact.proofs.Ring.{◌⊕◌, ◌⊗◌, minus, lit, v0, v1}
 use Rattle.spec_exact.proofs.WholeRing.{by_ring}

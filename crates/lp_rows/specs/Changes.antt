@@ -10,31 +10,32 @@ use Rattle.lp_rows.specs.declared.tableau.tableau.RowTableau.{RowTableau}
 use Rattle.lp_rows.specs.Shows.{IsWhole, width, all_width}
 use Rattle.lp_rows.specs.Moves.{AreMoved, AreTurned}
 
--- the lower bound of column k
+-- the lower bound of column k of a tableau of integer rows, as a fraction; none where it has none
 abbrev pub lower_in : {T : Type 0} → (T → ℕ) → RowTableau T → ℕ → Option ℚ
 lower_in value r k = bound_of value (value r.denominator) (get_or r.lower.items k None)
 
--- the upper bound of column k
+-- the upper bound of column k of a tableau of integer rows, as a fraction; none where it has none
 abbrev pub upper_in : {T : Type 0} → (T → ℕ) → RowTableau T → ℕ → Option ℚ
 upper_in value r k = bound_of value (value r.denominator) (get_or r.upper.items k None)
 
--- the status of column k
+-- the status of column k of a tableau of integer rows, `Basic` behind its columns
 abbrev pub status_in : {T : Type 0} → RowTableau T → ℕ → Status
 status_in r k = get_or r.status.items k Basic
 
--- the basic column of position i
+-- the basic column of position i of a tableau of integer rows, 0 behind its positions
 abbrev pub basic_in : {T : Type 0} → RowTableau T → ℕ → ℕ
 basic_in r i = get_or r.basic.items i 0
 
--- what neither a flip nor a pivot changes: the number of columns, the lower bounds, the fixed columns, and the
--- denominator of the bounds
+-- the tableau s has the number of columns, the lower bounds, the fixed columns and the denominator of r, as after a
+-- flip or a pivot
 pub record IsKept {T : Type 0} (r s : RowTableau T) : Type 0 where
   pub cols : s.cols ≡ r.cols
   pub lower : s.lower ≡ r.lower
   pub fixed : s.fixed ≡ r.fixed
   pub denominator : s.denominator ≡ r.denominator
 
--- column j goes to its other bound, and `by` over the denominator of all bounds is how far it is there
+-- A flip took the tableau r to s: column j is at its other bound. `by`, over the denominator of all bounds, is how far
+-- it moved, and each basic value is less by its entry in column j times that. All else is as it was.
 pub record IsFlipped {T : Type 0} (value : T → ℕ) (j : ℕ) (r s : RowTableau T) : Type 0 where
   pub whole : IsWhole value s
   pub kept : IsKept r s
@@ -52,7 +53,8 @@ pub record IsFlipped {T : Type 0} (value : T → ℕ) (j : ℕ) (r s : RowTablea
 abbrev pub left_upper : ℕ → ℕ → ℕ → Option ℚ → Option ℚ
 left_upper n q k b = if nat_le n q then (if nat_eq k q then Some 0ℚ else b) else b
 
--- column j takes the position p, whose column goes to the bound `to`
+-- A pivot took the tableau r to s: column j is basic at position p, and the column that was there is at its bound `to`,
+-- and gets the upper bound 0 if it is artificial. Rows, values and reduced costs are turned so.
 pub record IsPivoted {T : Type 0} (value : T → ℕ) (p j : ℕ) (to : Status) (r s : RowTableau T) : Type 0 where
   pub whole : IsWhole value s
   pub kept : IsKept r s

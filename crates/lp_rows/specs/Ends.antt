@@ -15,19 +15,20 @@ use Rattle.lp_rows.specs.Shows.{width}
 
 -- ---- the lists of spec_runs, of another kind of numbers
 
--- the values of the structural columns
+-- the values of the structural columns, in a kind of numbers
 abbrev pub point_as : {N : Type 0} → (ℚ → N) → Tableau → List N
 point_as of t = made t.cols (λ j. of (value_at t j))
 
--- the reduced costs of the rows' logicals
+-- the reduced costs of the rows' logicals, in a kind of numbers
 abbrev pub multipliers_as : {N : Type 0} → (ℚ → N) → Tableau → List N
 multipliers_as of t = made t.rows (λ i. of (reduced_at t (t.cols + i)))
 
--- how the structural columns move as column j enters
+-- how the structural columns move as column j enters and rises or falls by 1, in a kind of numbers
 abbrev pub direction_as : {N : Type 0} → (ℚ → N) → Tableau → ℕ → Way → List N
 direction_as of t j way = made t.cols (λ k. of (moves_by t j way k))
 
--- by the end of phase two; there is none where phase one leaves an artificial that is not 0
+-- the certificate of an end of phase two, in a kind of numbers; without such an end phase one left an artificial that
+-- is not 0, and it is that of infeasibility
 abbrev pub certificate_as : {N : Type 0} → (ℚ → N) → Tableau → Option PrimalEnd → Certificate (List N)
 certificate_as of t None = certificate.Infeasible (multipliers_as of t)
 certificate_as of t (Some Optimal) = certificate.Optimal (point_as of t) (multipliers_as of t)
@@ -40,12 +41,12 @@ AllFit fits (certificate.Infeasible y) = All fits y
 AllFit fits (certificate.Clash j) = Unit {0}
 AllFit fits (certificate.Unbounded x r) = All fits x × All fits r
 
--- the basis of an end: none where phase one leaves an artificial that is not 0
+-- the basis of an optimal end; none of an unbounded end, nor where phase one leaves an artificial that is not 0
 abbrev pub basis_by : Tableau → Option PrimalEnd → Option (List Status)
 basis_by t None = None
 basis_by t (Some end) = basis_at t end
 
--- a column that is never stopped is structural or logical
+-- if the end is an unbounded one, its column is structural or logical; of other ends nothing is asked
 abbrev pub IsInside : {T : Type 0} → RowTableau T → Option PrimalEnd → Type 0
 IsInside r None = Unit {0}
 IsInside r (Some Optimal) = Unit {0}

@@ -12,25 +12,27 @@ use Rattle.spec_simplex.specs.Step.{way_at}
 use Rattle.lp_natural.specs.declared.words.signed.Signed.{Signed}
 use Rattle.lp_rows.specs.Row.{fraction_at}
 
--- one of three, by the sign
+-- the first of three where the sign is negative, the second where it is 0, and else the third
 abbrev pub of_sign : {A : Type 0} → Ordering → A → A → A → A
 of_sign Less x y z = x
 of_sign Equal x y z = y
 of_sign Greater x y z = z
 
--- which way a column goes, by its status and the sign of its reduced cost
+-- whether a column rises or falls as it enters, by its status and the sign of its reduced cost;
+-- none where it may not enter
 abbrev pub way_of : Status → Ordering → Option Way
 way_of Basic o = None
 way_of AtLower o = of_sign o (Some Up) None None
 way_of AtUpper o = of_sign o None None (Some Down)
 way_of AtZero o = of_sign o (Some Up) None (Some Down)
 
--- a fixed column goes none
+-- whether a column rises or falls as it enters, by whether it is fixed, its status and the sign of its reduced cost;
+-- none where it may not enter, as a fixed one never may
 abbrev pub way_with : Bool → Status → Ordering → Option Way
 way_with fixed s o = if fixed then None else way_of s o
 
--- the numbers over d are a tableau's reduced costs, the lists its statuses and which columns are fixed, as far as the
--- columns are those of the form; and no artificial column goes any way
+-- In the structural and logical columns, the numbers over d are the reduced costs of the tableau t, and the lists say
+-- their statuses and which of them are fixed. No artificial column may enter.
 pub record IsPriced {T : Type 0} (value : T → ℕ) (t : Tableau) (numbers : List (Signed T)) (d : ℕ)
     (statuses : List Status) (fixed : List Bool) : Type 0 where
   pub columns : length fixed ≡ form_columns t

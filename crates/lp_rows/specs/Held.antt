@@ -16,14 +16,15 @@ use Rattle.lp_rows.specs.Shows.{IsRow, row_at}
 
 -- ---- rows of fractions
 
--- the numbers are these fractions, and the last one this value on a further denominator d
+-- the row of whole numbers is this list of fractions on its own denominator, and behind them this value,
+-- on d times that
 pub record IsRowOf {T : Type 0} (value : T → ℕ) (list : List ℚ) (last : ℚ) (d : ℕ) (row : Row T) : Type 0 where
   pub is_row : IsRow value (length list) row
   pub entries : (k : ℕ) → k < length list →
       fraction_at value row.numbers.items (value row.denominator) k ≡ get_or list k 0ℚ
   pub value_last : fraction_at value row.numbers.items (d * value row.denominator) (length list) ≡ last
 
--- the numbers are these fractions on the denominator `own`, and the last one this value on `both`
+-- the whole numbers are this list of fractions on the denominator `own`, and behind them this value on `both`
 pub record IsRowWith {T : Type 0} (value : T → ℕ) (list : List ℚ) (last : ℚ) (own both : ℕ)
     (numbers : List (Signed T)) :
     Type 0 where
@@ -38,19 +39,21 @@ pub record AreRowsOf {T : Type 0} (value : T → ℕ) (t : Tableau) (d h : ℕ) 
   pub entries : (i k : ℕ) → i < h → k < form_columns t → row_at value 1 rows i k ≡ entry_at t i k
   pub values : (i : ℕ) → i < h → row_at value d rows i (form_columns t) ≡ value_at t (basic_at t i)
 
--- the whole numbers are these bounds on their denominator
+-- the whole numbers over their denominator are these lower and upper bounds, with none where these have none
 pub record AreBounds {T : Type 0} (value : T → ℕ) (lower upper : List (Option ℚ)) (b : Bounds T) : Type 0 where
   pub below : map (bound_of value (value b.denominator)) b.lower.items ≡ lower
   pub above : map (bound_of value (value b.denominator)) b.upper.items ≡ upper
   pub positive : 0 < value b.denominator
 
--- the columns stand as those of a tableau do
+-- the lists say the basic columns and the statuses of a tableau,
+-- and which structural and logical columns are fixed in it
 pub record AreStandings (t : Tableau) (s : Standing) : Type 0 where
   pub basic : s.basic.items ≡ made t.rows (basic_at t)
   pub status : s.status.items ≡ made (all_columns t) (status_at t)
   pub fixed : s.fixed.items ≡ made (form_columns t) (λ k. is_fixed (lower_at t k) (upper_at t k))
 
--- the rows hold all parts of a tableau
+-- the tableau of integer rows has the entries, values, reduced costs, basic columns,
+-- statuses and bounds of the tableau t
 pub record HoldsParts {T : Type 0} (value : T → ℕ) (t : Tableau) (r : RowTableau T) : Type 0 where
   pub cols : r.cols ≡ t.cols
   pub rows : AreRowsOf value t (value r.denominator) t.rows r.rows.items

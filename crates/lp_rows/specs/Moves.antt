@@ -17,32 +17,32 @@ number_in value [] i k = 0ℚ
 number_in value (row ∷ rows) zero k = number_at value row k
 number_in value (row ∷ rows) (suc i) k = number_in value rows i k
 
--- the last number is v less
+-- the row `new` is `old` with a last number that is v less
 pub record IsLess {T : Type 0} (value : T → ℕ) (n : ℕ) (v : ℚ) (old new : Row T) : Type 0 where
   pub row : IsRow value n new
   pub others : (k : ℕ) → k < n → number_at value new k ≡ number_at value old k
   pub last : number_at value new n ≡ number_at value old n -ℚ v
 
--- the last number is v less, and then all are over that of column j
+-- the row `new` is `old`, with a last number that is v less, divided by its number of column j
 pub record IsScaled {T : Type 0} (value : T → ℕ) (n j : ℕ) (v : ℚ) (old new : Row T) : Type 0 where
   pub row : IsRow value n new
   pub others : (k : ℕ) → k < n → number_at value new k ≡ number_at value old k *ℚ inverse (number_at value old j)
   pub last : number_at value new n ≡ (number_at value old n -ℚ v) *ℚ inverse (number_at value old j)
 
--- the row `own` is taken off as often as the row's number of column j says
+-- the row `new` is `old` less the row `own` times old's number of column j
 pub record IsCleared {T : Type 0} (value : T → ℕ) (n j : ℕ) (own old new : Row T) : Type 0 where
   pub row : IsRow value n new
   pub each : (k : ℕ) → k < n + 1 →
       number_at value new k ≡ number_at value old k -ℚ number_at value old j *ℚ number_at value own k
 
--- the row `own` is taken off each row as often as that row's number of column j says
+-- each row of `new` is that of `old` less the row `own` times its number of column j
 pub record AreCleared {T : Type 0} (value : T → ℕ) (n j : ℕ) (own : Row T) (old new : List (Row T)) : Type 0 where
   pub len : length new ≡ length old
   pub rows : All (IsRow value n) new
   pub each : (i k : ℕ) → i < length old → k < n + 1 →
       number_in value new i k ≡ number_in value old i k -ℚ number_in value old i j *ℚ number_at value own k
 
--- the last number of each row is less by v times that of column j
+-- each row of `new` is that of `old` with a last number that is less by v times its number of column j
 pub record AreMoved {T : Type 0} (value : T → ℕ) (n j : ℕ) (v : ℚ) (old new : List (Row T)) : Type 0 where
   pub len : length new ≡ length old
   pub rows : All (IsRow value n) new
@@ -50,11 +50,12 @@ pub record AreMoved {T : Type 0} (value : T → ℕ) (n j : ℕ) (v : ℚ) (old 
   pub last : (i : ℕ) → i < length old →
       number_in value new i n ≡ number_in value old i n -ℚ number_in value old i j *ℚ v
 
--- how far column j moves where its row p comes to the value v
+-- by how much column j moves when the last number of row p comes to v: the difference over the row's number of column j
 abbrev pub step_to : {T : Type 0} → (T → ℕ) → ℕ → ℕ → ℕ → ℚ → List (Row T) → ℚ
 step_to value n p j v rows = (number_in value rows p n -ℚ v) *ℚ inverse (number_in value rows p j)
 
--- a pivot at position p in column j, which goes on from the value w, to the value v of the column that leaves
+-- A pivot at position p in column j took the rows `old` to `new` and the reduced costs `cost` to `costs`. The column
+-- that leaves comes to the value v, and column j goes on from the value w.
 pub record AreTurned {T : Type 0} (value : T → ℕ) (n p j : ℕ) (v w : ℚ) (old new : List (Row T)) (cost costs : Row T) :
     Type 0 where
   pub len : length new ≡ length old

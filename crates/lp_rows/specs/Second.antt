@@ -21,7 +21,8 @@ fraction_of value row k = fraction_at value row.numbers.items (value row.denomin
 abbrev pub cost_in : {T : Type 0} → (T → ℕ) → ℕ → Row T → ℕ → ℚ
 cost_in value n row k = if nat_lt k n then fraction_of value row k else 0ℚ
 
--- the row of position i is taken off as often as the cost of its basic column says
+-- the costs `new` are `old` less the row of position i times old's cost of the basic column there, which is 0 where
+-- that is artificial
 pub record IsLess {T : Type 0} (value : T → ℕ) (r : RowTableau T) (i : ℕ) (old new : Row T) : Type 0 where
   pub row : IsRow value (width r) new
   pub less : (k : ℕ) → k < width r →
@@ -38,7 +39,8 @@ pub record IsLessRows {T : Type 0} (value : T → ℕ) (r : RowTableau T) (n : �
       (k : ℕ) → k < width r →
       fraction_of value new k ≡ cost k -ℚ sum_below n (λ i. cost (basic_at t i) *ℚ entry_at t i k)
 
--- the reduced costs of some costs, in the structural and the logical columns
+-- The row has the reduced costs for these costs, in the structural and the logical columns. So it is where the
+-- tableau's rows show one in which each basic column has an entry in its own row alone.
 pub record IsPricedRow {T : Type 0} (value : T → ℕ) (r : RowTableau T) (costs : List ℚ) (row : Row T) : Type 0 where
   pub is_row : IsRow value (width r) row
   pub less : (t : Tableau) → IsUnit t.rows (entry_at t) (basic_at t) → Shows value r t → (k : ℕ) → k < width r →
@@ -47,13 +49,13 @@ pub record IsPricedRow {T : Type 0} (value : T → ℕ) (r : RowTableau T) (cost
 
 -- ---- bounds
 
--- the bounds from that of column n up to that of column m are 0, and those before are as they were
+-- the bounds `new` are `old` in the columns before n, and 0 in those from n on that are below m
 pub record AreZeroed {T : Type 0} (value : T → ℕ) (n m : ℕ) (old new : List (Option (Signed T))) : Type 0 where
   pub len : length new ≡ length old
   pub before : (k : ℕ) → k < n → get_or new k None ≡ get_or old k None
   pub zero : (k : ℕ) → n ≤ k → k < m → (d : ℕ) → 0 < d → bound_of value d (get_or new k None) ≡ Some 0ℚ
 
--- other costs, and the artificial columns fixed at 0
+-- the tableau `new` is `old` with these reduced costs, and with 0 as both bounds of each artificial column
 pub record IsBegun {T : Type 0} (value : T → ℕ) (old : RowTableau T) (costs : Row T) (new : RowTableau T) : Type 0 where
   pub cols : new.cols ≡ old.cols
   pub rows : new.rows ≡ old.rows

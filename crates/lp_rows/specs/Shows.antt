@@ -14,15 +14,15 @@ use Rattle.lp_rows.specs.Row.{fraction_at}
 use Rattle.lp_rows.specs.Ratio.{bound_of}
 use Rattle.lp_rows.specs.declared.tableau.tableau.RowTableau.{RowTableau}
 
--- how many positions there are
+-- how many positions a tableau of integer rows has
 abbrev pub height : {T : Type 0} → RowTableau T → ℕ
 height r = length r.rows.items
 
--- how many structural and logical columns there are
+-- how many structural and logical columns a tableau of integer rows has
 abbrev pub width : {T : Type 0} → RowTableau T → ℕ
 width r = r.cols + height r
 
--- how many columns there are, with the artificial ones
+-- how many columns a tableau of integer rows has: structural, logical and artificial ones
 abbrev pub all_width : {T : Type 0} → RowTableau T → ℕ
 all_width r = r.cols + height r + height r
 
@@ -31,7 +31,8 @@ pub record IsRow {T : Type 0} (value : T → ℕ) (n : ℕ) (row : Row T) : Type
   pub numbers : length row.numbers.items ≡ n + 1
   pub positive : 0 < value row.denominator
 
--- as many of each as there are positions and columns, which are at most as many as a model has
+-- Each row and the costs have a number for each structural and logical column and one more, and each list one item for
+-- each position or column. There are no more rows and columns than a usual model has, and no denominator is 0.
 pub record IsWhole {T : Type 0} (value : T → ℕ) (r : RowTableau T) : Type 0 where
   pub few_rows : height r ≤ row_limit
   pub few_columns : r.cols ≤ column_limit
@@ -45,14 +46,14 @@ pub record IsWhole {T : Type 0} (value : T → ℕ) (r : RowTableau T) : Type 0 
   pub all_fixed : length r.fixed.items ≡ width r
   pub positive : 0 < value r.denominator
 
--- the fraction of a number of a position's row, on a further denominator d; 0 where there is no such row
+-- number k of row i as a fraction, over d times the row's own denominator; 0 where there is no such row or number
 abbrev pub row_at : {T : Type 0} → (T → ℕ) → ℕ → List (Row T) → ℕ → ℕ → ℚ
 row_at value d [] i k = 0ℚ
 row_at value d (row ∷ rows) zero k = fraction_at value row.numbers.items (d * value row.denominator) k
 row_at value d (row ∷ rows) (suc i) k = row_at value d rows i k
 
--- a tableau that a run by the rule of the least index comes to: of some rows, costs and bounds, with each value within
--- these
+-- The tableau solves some equations for its basic columns, has the reduced costs of some costs, and has each value
+-- within some bounds, as each tableau of a run by Bland's rule.
 pub record IsReached (t : Tableau) : Type 0 where
   pub equations : Matrix
   pub cost : ℕ → ℚ
@@ -60,8 +61,8 @@ pub record IsReached (t : Tableau) : Type 0 where
   pub tableau : IsTableauOf t.rows t.cols equations cost bounds t
   pub within : IsWithinBounds t.rows t.cols bounds t
 
--- The rows are those of the tableau, as far as they are kept: artificial columns have neither entries nor reduced
--- costs. A column that is not basic is at its bound.
+-- The integer rows are the tableau t: they have its entries and reduced costs in structural and logical columns, its
+-- basic values, basic columns, statuses and bounds. Each nonbasic column of t is at its bound.
 pub record Shows {T : Type 0} (value : T → ℕ) (r : RowTableau T) (t : Tableau) : Type 0 where
   pub rows : height r ≡ t.rows
   pub cols : r.cols ≡ t.cols

@@ -25,7 +25,8 @@ pub(crate) fn sign<T: Words>(n: Signed<T>) -> Ordering
     }
 }
 
-// Which way a column goes, by its status and the sign of its reduced cost.
+// Which way a nonbasic column goes as it enters, by its status and the sign of its reduced cost; none if it should not
+// enter.
 fn way(status: Status, sign: Ordering) -> Option<Way>
     ensures { result ≡ way_of status sign }
 {
@@ -49,7 +50,7 @@ fn way(status: Status, sign: Ordering) -> Option<Way>
     }
 }
 
-// Which way a column goes, by its status and reduced cost. A fixed column goes none.
+// Which way a column goes as it enters, by its status and reduced cost; none if it should not enter, or is fixed.
 fn way_if_free<T: Words>(cost: Signed<T>, status: Status, is_fixed: bool) -> Option<Way>
     ensures { result ≡ way_with is_fixed status (int_cmp (whole cost.negative (T.value cost.size)) (pos 0)) }
 {
@@ -60,8 +61,8 @@ fn way_if_free<T: Words>(cost: Signed<T>, status: Status, is_fixed: bool) -> Opt
     }
 }
 
-// The least column that may enter, by a row of reduced costs, the columns' statuses and which of them are fixed.
-// `fixed` has one for each structural and logical column: the artificial ones behind them never enter.
+// The least column that may enter, with its way, by the reduced costs, the statuses and which columns are fixed; none
+// if no one may. `fixed` has structural and logical columns: the artificial ones behind them never enter.
 pub(crate) fn entering<T: Words>(
     costs: &Row<T>,
     status: &[Status],

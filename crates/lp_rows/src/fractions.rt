@@ -30,8 +30,8 @@ pub(crate) struct Shares<T> {
     pub(crate) common: T,
 }
 
-// Divides two numbers by a divisor that they have in common, or gives `None` where the divisor that is found does not
-// divide both.
+// The quotients of two numbers by a divisor that they have in common, and that divisor. None where the one that is
+// found does not divide both.
 pub(crate) fn share_common<T: Words>(a: T, b: T) -> Option<Shares<T>>
     ensures { IfSome result (λ s. (T.value s.first * T.value s.common ≡ T.value a)
         × (T.value s.second * T.value s.common ≡ T.value b)) }
@@ -54,8 +54,8 @@ pub(crate) fn share_common<T: Words>(a: T, b: T) -> Option<Shares<T>>
     }
 }
 
-// Takes the multiple of the other row off that the row's entry in column `j` says. Where it is false a number
-// overflows the width, and the row is spent.
+// Subtracts from a row its entry in column `j` times the other row, so that this entry becomes 0 where the other row's
+// is 1. Where the answer is false a number overflows the width, and the row is spent.
 pub(crate) fn clear<T: Words>(row: &mut Row<T>, other: &Row<T>, j: usize) -> bool
     requires same { length other.now.numbers.items ≡ length row.old.numbers.items }
     requires column { j < length row.old.numbers.items }
@@ -96,7 +96,8 @@ fn is_none<T: Words>(n: Signed<T>) -> bool
     n.size.is_zero()
 }
 
-// Divides a row by its entry in column `j`. Where it is false that entry is 0, and the row as it was.
+// Divides a row by its entry in column `j`, which is not 0 then. Where the answer is false that entry is 0, and the row
+// stays as it was.
 pub(crate) fn divide<T: Words>(row: &mut Row<T>, j: usize) -> bool
     requires column { j < length row.old.numbers.items }
     requires positive { 0 < T.value row.old.denominator }
@@ -137,7 +138,8 @@ fn divisor<T: Words>(numbers: &[Signed<T>], denominator: T) -> T {
     found
 }
 
-// Takes out what a row's numbers have in common with its denominator. Where it is false the row is spent.
+// Divides a row's numbers and its denominator by a divisor that they have in common. Where the answer is false the row
+// is spent.
 pub(crate) fn reduce<T: Words>(row: &mut Row<T>) -> bool
     requires positive { 0 < T.value row.old.denominator }
     ensures rest { IsTrue result → AreNow T.value

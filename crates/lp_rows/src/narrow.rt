@@ -11,14 +11,14 @@ use lp_frac::{Frac, LARGEST, den, num};
 use lp_natural::words::{Signed, Words, to_whole};
 use std::alloc::{AllocError, Global};
 
-// The whole number, if it does not overflow 127 bits.
+// The whole number with this sign and size; none where it is past 127 bits.
 fn whole_of<T: Words>(negative: bool, size: T) -> Option<i128>
     ensures { IfSome result (λ n. n ≡ whole negative (T.value size)) }
 {
     to_whole(Signed { negative, size })
 }
 
-// The fraction of two whole numbers, if it does not overflow 127 bits.
+// The fraction `a / b`; none where it is past 127 bits, or `b` is 0.
 fn made(a: i128, b: i128) -> Option<Frac>
     ensures { (n : ℕ) → 0 < n → b ≡ pos n → IfSome result (λ f. f ≡ over a n) }
 {
@@ -28,7 +28,7 @@ fn made(a: i128, b: i128) -> Option<Frac>
     }
 }
 
-// The fraction of both numbers, if it does not overflow 127 bits.
+// The fraction of a row's number and its denominator; none where it is past 127 bits.
 fn fraction<T: Words>(v: RowFraction<T>) -> Option<Frac>
     requires { 0 < T.value v.denominator }
     ensures { IfSome result (λ f. f ≡ fraction_of T.value v) }
@@ -49,7 +49,7 @@ fn fraction<T: Words>(v: RowFraction<T>) -> Option<Frac>
     }
 }
 
-// The fraction, whose parts have at most 127 bits as those of each one.
+// Gives the fraction back, if there is one. Proofs learn by it that its parts have at most 127 bits.
 fn kept(v: Option<Frac>) -> Option<Frac>
     ensures same { result ≡ v }
     ensures narrow { IfSome result IsNarrow }

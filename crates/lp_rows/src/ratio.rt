@@ -36,7 +36,7 @@ impl<T: Copy> Clone for Stopper<T> {
     }
 }
 
-// Whether both products are 0, of which the second factors are not.
+// Whether the products `a m` and `b n` are both 0, where neither `m` nor `n` is.
 fn are_none<T: Words>(a: T, m: T, b: T, n: T) -> bool
     requires first { 0 < T.value m }
     requires second { 0 < T.value n }
@@ -46,7 +46,7 @@ fn are_none<T: Words>(a: T, m: T, b: T, n: T) -> bool
     if a.is_zero() { b.is_zero() } else { false }
 }
 
-/// The order of `a m` to `b n`.
+/// The order of `a m` and `b n`: `Less` where the first one is less.
 pub fn order<T: Words>(a: Signed<T>, m: T, b: Signed<T>, n: T) -> Ordering
     requires first { 0 < T.value m }
     requires second { 0 < T.value n }
@@ -72,7 +72,8 @@ pub fn order<T: Words>(a: Signed<T>, m: T, b: Signed<T>, n: T) -> Ordering
     }
 }
 
-// The better of two stops: the lesser ratio, and of equal ones the lesser column.
+// The better of two stops: the one with the lesser ratio of gap to entry, and of equal ones the one of the lesser
+// column.
 pub(crate) fn better<T: Words>(new: Stopper<T>, best: Stopper<T>) -> Stopper<T>
     requires first { 0 < T.value new.entry }
     requires second { 0 < T.value best.entry }
@@ -94,7 +95,9 @@ pub(crate) struct Gap<T> {
     pub(crate) to: Status,
 }
 
-// How far a value is below a bound (`Up`), or above it (`Down`), both over the row's denominator.
+// How far a value is below a bound (`Up`) or above it (`Down`); below 0 where it is past the bound. The bound is on the
+// denominator of all bounds; the value and the result are on that times the row's. None where a number overflows the
+// width.
 fn room<T: Words>(way: Way, bound: Signed<T>, value: Signed<T>, denominator: T) -> Option<Signed<T>>
     ensures { IfSome result (λ r. whole r.negative (T.value r.size) ≡ room_of way
         (whole bound.negative (T.value bound.size) *ℤ pos (T.value denominator))
@@ -113,8 +116,9 @@ fn room<T: Words>(way: Way, bound: Signed<T>, value: Signed<T>, denominator: T) 
     }
 }
 
-// How far a value is below a bound (`Up`) or above it (`Down`), over the row's denominator, with the status at the bound.
-// It is below 0 where the value is past the bound. There is no gap where there is no bound.
+// How far a value is below a bound (`Up`) or above it (`Down`), with the status at the bound. The value and the gap are
+// on the row's denominator times that of all bounds. The gap is below 0 where the value is past the bound. There is no
+// gap where there is no bound; an overflow is an error.
 fn gap_to<T: Words>(
     way: Way,
     bound: Option<Signed<T>>,
@@ -135,8 +139,8 @@ fn gap_to<T: Words>(
 }
 
 // The gap between the value of a basic column and the bound toward which it moves: its upper bound where it rises
-// (`Less`), its lower bound where it falls (`Greater`). There is no gap where it stays, or has no such bound. `value`
-// is over the row's denominator times that of all bounds; `lower` and `upper` are over the latter.
+// (`Less`), its lower bound where it falls (`Greater`). There is no gap where it stays, or has no such bound; an
+// overflow is an error. `value` is over the row's denominator times that of all bounds, and the bounds over the latter.
 pub(crate) fn gap_for<T: Words>(
     goes: Ordering,
     lower: Option<Signed<T>>,
@@ -179,7 +183,7 @@ impl<T: Copy> Clone for Position<T> {
     }
 }
 
-// What stops the entering column in a position whose basic column has this gap.
+// What stops the entering column at a position whose basic column has this gap; nothing does where there is no gap.
 pub(crate) fn stopper_at<T: Words>(at: Position<T>, gap: Option<Gap<T>>) -> Option<Stopper<T>>
     requires { 0 < T.value at.entry.size }
     ensures step { (d e : ℕ) → 0 < d → 0 < e → (best : Option (Best ℚ)) →
@@ -200,8 +204,8 @@ pub(crate) fn stopper_at<T: Words>(at: Position<T>, gap: Option<Gap<T>>) -> Opti
     }
 }
 
-// Whether a basic column rises (`Less`), stays or falls, whose position has this entry, as the entering column moves
-// in this way.
+// Whether the basic column of a position with this entry rises (`Less`), stays (`Equal`) or falls (`Greater`), as the
+// entering column moves this way.
 pub(crate) fn goes<T: Words>(way: Way, entry: Signed<T>) -> Ordering
     ensures { (e : ℕ) → 0 < e → (lower upper : Option ℚ) (v : ℚ) →
         step.gap_run None way (over (whole entry.negative (T.value entry.size)) e) lower upper v ≡

@@ -20,7 +20,8 @@ fn are_none<T: Words>(x: Signed<T>, y: Signed<T>) -> bool
     x.size.is_zero() && y.size.is_zero()
 }
 
-// Takes the other row `b` times off a row. Where it is false a number overflows the width, and the row is spent.
+// Subtracts `b` times the other row from a row. Where the answer is false a number overflows the width, and the row is
+// spent.
 fn take_off<T: Words>(row: &mut [Signed<T>], other: &[Signed<T>], b: Signed<T>) -> bool
     requires { length other.now ≡ length row.old }
     ensures each { IsTrue result → (k : ℕ) → k < length row.old → at T.value row.new k ≡
@@ -44,8 +45,8 @@ fn take_off<T: Words>(row: &mut [Signed<T>], other: &[Signed<T>], b: Signed<T>) 
     true
 }
 
-// Makes of each number of a row `a` times it, less `b` times that of the other row. Where it is false a number is past
-// the width, and the row is spent.
+// Replaces each number of a row by `a` times it, less `b` times that of the other row. Where the answer is false a
+// number is past the width, and the row is spent.
 fn combine<T: Words>(row: &mut [Signed<T>], other: &[Signed<T>], a: Signed<T>, b: Signed<T>) -> bool
     requires { length other.now ≡ length row.old }
     ensures each { IsTrue result → (k : ℕ) → k < length row.old → at T.value row.new k ≡
@@ -66,8 +67,8 @@ fn combine<T: Words>(row: &mut [Signed<T>], other: &[Signed<T>], a: Signed<T>, b
     true
 }
 
-// Makes of each number of a row `a` times it, less `b` times that of the other row. Where it is false a number is past
-// the width, and the row is spent. Where `a` is 1, it passes over what the other row has none of.
+// Replaces each number of a row by `a` times it, less `b` times that of the other row. Where the answer is false a
+// number is past the width, and the row is spent. Where `a` is 1 it passes over the zeros of the other row.
 pub(crate) fn eliminate<T: Words>(
     row: &mut [Signed<T>],
     other: &[Signed<T>],
@@ -87,7 +88,7 @@ pub(crate) fn eliminate<T: Words>(
     }
 }
 
-/// Turns the sign of each number, or leaves them as they are.
+/// Turns the sign of each number if `is_turned`; else leaves all as they are.
 pub(crate) fn turn<T: Words>(row: &mut [Signed<T>], is_turned: bool)
     ensures each { (k : ℕ) → k < length row.old → at T.value row.new k ≡ turned_if is_turned (at T.value row.old k) }
     ensures len { length row.new ≡ length row.old }

@@ -8,7 +8,8 @@ use lp_natural::words::{Signed, Words, natural};
 use lp_ratio::Ratio;
 use std::alloc::{AllocError, Global};
 
-// The same fraction with its numerator and its denominator divided by a common divisor, where one is found.
+// The same fraction with its numerator and its denominator divided by a common divisor, or as it was where none is
+// found.
 fn shared<T: Words>(v: RowFraction<T>) -> RowFraction<T>
     requires { 0 < T.value v.denominator }
     ensures value { fraction_of T.value result ≡ fraction_of T.value v }
@@ -30,7 +31,7 @@ fn shared<T: Words>(v: RowFraction<T>) -> RowFraction<T>
     }
 }
 
-// The fraction as a number of any width.
+// The row's fraction as one of any width.
 fn ratio<T: Words>(alloc: Global, v: RowFraction<T>) -> Result<Ratio, AllocError>
     requires { 0 < T.value v.denominator }
     ensures { IfOk result (λ r. r ≡ fraction_of T.value v) }

@@ -29,7 +29,8 @@ pub enum Step {
     Pivot { place: u32, col: u32, to: Status },
 }
 
-// The step for the entering column, where `stop` is what stops it first.
+// The step for the entering column, where `stop` is what stops it first: a pivot, or a flip where its own other bound
+// stops it. Where nothing does, the run ends as unbounded.
 fn step_by<T: Words>(e: Entering, stop: Option<Stopper<T>>) -> Step
     ensures value { (d : ℕ) → step_of (choice_by e (option_map (best_of T.value d) stop)) ≡ result }
     ensures inside { (m n : ℕ) → e.col < n → IsStop T.value m stop → IsInReach m n result }
@@ -50,7 +51,7 @@ fn step_by<T: Words>(e: Entering, stop: Option<Stopper<T>>) -> Step
     }
 }
 
-// The step for the entering column. There is none where a number overflows the width.
+// The step for the entering column, by the ratio test. None where a number overflows the width.
 fn step_in<T: Words>(tab: &RowTableau<T>, e: Entering) -> Option<Step>
     requires whole { IsWhole T.value tab.now }
     requires column { e.col < width tab.now }
@@ -64,7 +65,8 @@ fn step_in<T: Words>(tab: &RowTableau<T>, e: Entering) -> Option<Step>
     }
 }
 
-/// The next step, by the rule of the least index (Bland 1977). There is none where a number overflows the width.
+/// The next step, by the rule of the least index (Bland 1977), or the end as an optimum where no column may enter. None
+/// where a number overflows the width.
 pub fn next_step<T: Words>(tab: &RowTableau<T>) -> Option<Step>
     requires { IsWhole T.value tab.now }
     ensures chosen { (t : tableaus.Tableau) → IsReached t → Shows T.value tab.now t →

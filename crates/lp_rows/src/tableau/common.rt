@@ -13,7 +13,8 @@ use lp_natural::words::{Signed, Words, from_number, from_whole, quotient, some_c
 use std::alloc::{AllocError, Global};
 use std::cmp::Ordering;
 
-// A common multiple of both, in practice the least one. Nothing rests on its value.
+// A common multiple of both numbers, in practice the least one. None where it overflows the width. Nothing rests on its
+// value.
 fn common_multiple<T: Words>(a: T, b: T) -> Option<T> {
     if b.compare(T::one()) == Ordering::Equal {
         return Some(a);
@@ -24,21 +25,22 @@ fn common_multiple<T: Words>(a: T, b: T) -> Option<T> {
     }
 }
 
-// The numerator, unless it overflows the width.
+// The numerator of a fraction in words; none where it overflows the width.
 fn numerator<T: Words>(f: Frac) -> Option<Signed<T>>
     ensures { IfSome result (λ n. whole_of T.value n ≡ f.num) }
 {
     from_whole(num(f))
 }
 
-// The denominator, unless it overflows the width.
+// The denominator of a fraction in words; none where it overflows the width.
 fn own_denominator<T: Words>(f: Frac) -> Option<T>
     ensures { IfSome result (λ d. T.value d ≡ f.den) }
 {
     from_number(den(f).unsigned_abs())
 }
 
-// A common multiple of a number and a fraction's denominator. Nothing rests on its value.
+// A common multiple of a number and a fraction's denominator; none where it overflows the width. Nothing rests on its
+// value.
 fn multiple_for<T: Words>(so_far: T, f: Frac) -> Option<T> {
     match own_denominator(f) {
         Some(d) => common_multiple(so_far, d),
@@ -53,7 +55,7 @@ fn if_positive<T: Words>(n: T) -> Option<T>
     if n.is_zero() { None } else { Some(n) }
 }
 
-// A common denominator of some fractions.
+// A common denominator of some fractions; none where it overflows the width.
 fn denominator_of<T: Words>(list: &[Frac]) -> Option<T>
     ensures { IfSome result (λ d. 0 < T.value d) }
 {
@@ -67,7 +69,8 @@ fn denominator_of<T: Words>(list: &[Frac]) -> Option<T>
     if_positive(found)
 }
 
-/// A common denominator of a number's reciprocal and some bounds. There is none where it overflows the width.
+/// A common multiple of the number `so_far` and the denominators of some bounds. None where it overflows the width, or
+/// is 0.
 pub fn denominator_with<T: Words>(so_far: T, bounds: &[Option<Frac>]) -> Option<T>
     ensures { IfSome result (λ d. 0 < T.value d) }
 {
@@ -82,7 +85,7 @@ pub fn denominator_with<T: Words>(so_far: T, bounds: &[Option<Frac>]) -> Option<
     if_positive(found)
 }
 
-// The fraction as a whole number on a denominator, if there is one within the width.
+// The numerator of a fraction on a denominator; none where it is not whole, or a number overflows the width.
 fn on<T: Words>(f: Frac, denominator: T) -> Option<Signed<T>>
     requires { 0 < T.value denominator }
     ensures { IfSome result (λ n. over (whole n.negative (T.value n.size)) (T.value denominator) ≡ f) }
@@ -102,7 +105,7 @@ fn on<T: Words>(f: Frac, denominator: T) -> Option<Signed<T>>
     }
 }
 
-// The fractions of a list as whole numbers on a denominator.
+// The numerators of a list of fractions on a denominator; none where one is not whole, or overflows the width.
 fn numbers_on<T: Words>(
     alloc: Global,
     list: &[Frac],
@@ -121,7 +124,8 @@ fn numbers_on<T: Words>(
     Ok(Some(numbers))
 }
 
-// A bound as a whole number on a denominator.
+// The numerator of a bound on a denominator, if there is a bound. An error where it is not whole, or overflows the
+// width.
 fn bound_on<T: Words>(bound: Option<Frac>, denominator: T) -> Result<Option<Signed<T>>, Overflow>
     requires { 0 < T.value denominator }
     ensures { IfOk result (λ b. bound_of T.value (T.value denominator) b ≡ bound) }
@@ -135,7 +139,7 @@ fn bound_on<T: Words>(bound: Option<Frac>, denominator: T) -> Result<Option<Sign
     }
 }
 
-/// The bounds as whole numbers on a denominator. There are none where one overflows the width.
+/// The numerators of the bounds on a denominator. There are none where one is not whole, or overflows the width.
 pub fn bounds_on<T: Words>(
     alloc: Global,
     bounds: &[Option<Frac>],
@@ -154,8 +158,8 @@ pub fn bounds_on<T: Words>(
     Ok(Some(numbers))
 }
 
-/// The row of some fractions on a denominator of their own, and last a value on that times a further denominator.
-/// There is none where a number overflows the width.
+/// A row of integers: the numerators of some fractions on a denominator of their own, and behind them that of `last`,
+/// on their denominator times `denominator`. None where `last` is not whole there, or a number overflows the width.
 pub fn row_of<T: Words>(
     alloc: Global,
     list: &[Frac],
@@ -174,7 +178,8 @@ pub fn row_of<T: Words>(
     }
 }
 
-// The row of some fractions on the denominator `own`, with the value `last` on `both`.
+// A row of integers: the numerators of some fractions on the denominator `own`, and behind them that of `last` on
+// `both`. None where one is not whole there, or overflows the width.
 fn row_on<T: Words>(
     alloc: Global,
     list: &[Frac],

@@ -78,7 +78,8 @@ fn fixed(alloc: Global, tab: &Tableau) -> Result<Vec<bool>, AllocError>
     listed!(alloc, k in 0..tab.cols() + tab.rows() => is_fixed(tab.lower(k), tab.upper(k)))
 }
 
-// The row of a position, with the value of its basic column behind.
+// The integer row of a position, with the value of its basic column behind, on the row's denominator times this one;
+// none where that value is not whole there, or a number overflows the width.
 fn row<T: Words>(
     alloc: Global,
     tab: &Tableau,
@@ -95,7 +96,8 @@ fn row<T: Words>(
     row_of(alloc, &list, tab.value(tab.basic(position)), denominator)
 }
 
-// The rows of all positions.
+// The integer rows of all positions; none where a number overflows the width, or a basic value is not whole on its
+// row's denominator times this one.
 fn rows<T: Words>(
     alloc: Global,
     tab: &Tableau,
@@ -115,7 +117,7 @@ fn rows<T: Words>(
     Ok(Some(rows))
 }
 
-// The row of reduced costs.
+// The integer row of the reduced costs, with 0 behind; none where a number overflows the width.
 fn costs<T: Words>(
     alloc: Global,
     tab: &Tableau,
@@ -129,7 +131,8 @@ fn costs<T: Words>(
     row_of(alloc, &list, zero(), denominator)
 }
 
-/// The rows that show a tableau. There are none where a number overflows the width.
+/// The integer rows that show a tableau of fractions. There are none where a number overflows the width, or a basic
+/// value is not whole on its row's denominator times that of all bounds.
 pub fn from_tableau<T: Words>(
     alloc: Global,
     tab: &Tableau,
@@ -143,7 +146,7 @@ pub fn from_tableau<T: Words>(
     parts(alloc, tab)
 }
 
-// The bounds of all columns.
+// The bounds of all columns as integers on a common denominator; none where a number overflows the width.
 fn bounds<T: Words>(alloc: Global, tab: &Tableau) -> Result<Option<Bounds<T>>, AllocError>
     ensures { IfOk result (λ o. IfSome o (AreBounds T.value
         (made (tableaus.all_columns tab.now) (tableaus.lower_at tab.now))
@@ -165,7 +168,8 @@ fn standing(alloc: Global, tab: &Tableau) -> Result<Standing, AllocError>
     })
 }
 
-// The integer rows of a tableau, with a contract for each part of them.
+// The integer rows of a tableau, with a contract for each part of them. None where a number overflows the width, or a
+// basic value is not whole on its row's denominator times that of all bounds.
 fn parts<T: Words>(alloc: Global, tab: &Tableau) -> Result<Option<RowTableau<T>>, AllocError>
     ensures { IfOk result (λ o. IfSome o (HoldsParts T.value tab.now)) }
 {

@@ -12,8 +12,8 @@ fn has_entry<T: Words>(row: &Row<T>, j: usize) -> bool {
     }
 }
 
-// About how many numbers of a row are not 0. Those of one word are changed about as quickly as they are counted, so a quarter
-// of them stands for the count.
+// About how many numbers of a row are not 0. Numbers of one word are changed about as quickly as they are counted, so a
+// quarter of all stands for the count there.
 fn entry_count<T: Words>(row: &Row<T>) -> usize {
     if T::width() == 64 {
         return row.numbers.len() / 4;
@@ -27,7 +27,7 @@ fn entry_count<T: Words>(row: &Row<T>) -> usize {
     count
 }
 
-// How many entries there are in the rows that have one in column `j`, and in the row of reduced costs.
+// About how many numbers are not 0 in the rows that have an entry in column `j`, and in the row of reduced costs.
 fn entries_changed<T: Words>(tab: &RowTableau<T>, j: usize) -> usize {
     let mut count = entry_count(&tab.costs);
     for row in &tab.rows {
@@ -39,7 +39,8 @@ fn entries_changed<T: Words>(tab: &RowTableau<T>, j: usize) -> usize {
 }
 
 /// How much a step changes: about as many numbers as are not 0 in the rows with an entry in its column, and in the
-/// reduced costs. Each counts by the square of its words, since it is multiplied. Nothing is promised of it.
+/// reduced costs. Each counts by the square of its words, since it is multiplied. An end changes nothing, which is 0.
+/// Nothing is promised of it.
 pub fn effort_of<T: Words>(tab: &RowTableau<T>, step: Step) -> u64 {
     let col = match step {
         Step::End(_) => return 0,

@@ -27,7 +27,7 @@ use std::alloc::{AllocError, Global};
 
 // ---- one number
 
-// The position of a basic column.
+// The position at which column `k` is basic; none if it is nonbasic.
 fn position_of(basic: &[u32], k: u32) -> Option<usize>
     ensures { IfSome result (λ i. (i < length basic.now) × (get_or basic.now i 0 ≡ k)) }
 {
@@ -39,7 +39,7 @@ fn position_of(basic: &[u32], k: u32) -> Option<usize>
     None
 }
 
-// The value of a position's basic column.
+// The value of a position's basic column as a fraction; none where a number overflows the width.
 fn basic_value<T: Words>(tab: &RowTableau<T>, i: usize) -> Option<RowFraction<T>>
     requires whole { IsWhole T.value tab.now }
     requires inside { i < height tab.now }
@@ -50,7 +50,8 @@ fn basic_value<T: Words>(tab: &RowTableau<T>, i: usize) -> Option<RowFraction<T>
     last_number(&tab.rows[i], last, tab.denominator)
 }
 
-// The last number of a row as a fraction, whose denominator is the row's times `denominator`.
+// The last number of a row as a fraction, whose denominator is the row's times `denominator`. None where that overflows
+// the width.
 fn last_number<T: Words>(row: &Row<T>, last: usize, denominator: T) -> Option<RowFraction<T>>
     requires row { IsRow T.value last row.now }
     ensures { IfSome result (λ v. fraction_of T.value v ≡
@@ -78,7 +79,7 @@ fn number<T: Words>(row: &Row<T>, columns: usize, k: usize) -> RowFraction<T>
     }
 }
 
-// A bound as a fraction, and 0 where there is none.
+// A bound on a denominator as a fraction, and 0 where there is none.
 fn bound_or_zero<T: Words>(bound: Option<Signed<T>>, denominator: T) -> RowFraction<T>
     ensures { fraction_of T.value result ≡ tableaus.or_zero (bound_of T.value (T.value denominator) bound) }
 {
@@ -91,7 +92,8 @@ fn bound_or_zero<T: Words>(bound: Option<Signed<T>>, denominator: T) -> RowFract
     }
 }
 
-// The value of a nonbasic column, and none for a basic one.
+// The value of a nonbasic column of this status with these bounds on `denominator`, and none for a basic one. A bound
+// that is absent counts as 0.
 fn stand<T: Words>(
     status: Status,
     lower: Option<Signed<T>>,
@@ -109,7 +111,7 @@ fn stand<T: Words>(
     }
 }
 
-// The value of a column.
+// The value of column `j`, basic or not, as a fraction; none where a number overflows the width.
 fn value_of<T: Words>(tab: &RowTableau<T>, j: u32) -> Option<RowFraction<T>>
     requires whole { IsWhole T.value tab.now }
     requires inside { j < all_width tab.now }
@@ -123,7 +125,7 @@ fn value_of<T: Words>(tab: &RowTableau<T>, j: u32) -> Option<RowFraction<T>>
     }
 }
 
-// The reduced cost of a row's logical.
+// The multiplier of row `i`: the reduced cost of its logical.
 fn multiplier<T: Words>(tab: &RowTableau<T>, i: usize) -> RowFraction<T>
     requires whole { IsWhole T.value tab.now }
     requires inside { i < height tab.now }
@@ -196,7 +198,7 @@ fn move_of<T: Words>(tab: &RowTableau<T>, e: Entering, k: u32) -> RowFraction<T>
 
 // ---- lists of numbers
 
-// The number of a list, if there is one.
+// The fraction as a number of the list's kind; none where there is no fraction, or it does not fit that kind.
 fn listed<T: Words, N: Listed>(
     alloc: Global,
     v: Option<RowFraction<T>>,
@@ -216,7 +218,7 @@ fn listed<T: Words, N: Listed>(
     }
 }
 
-// The values of the model's columns.
+// The values of the structural columns; none where one overflows the width of the words, or does not fit its kind.
 fn point<T: Words, N: Listed>(
     alloc: Global,
     tab: &RowTableau<T>,
@@ -236,7 +238,7 @@ fn point<T: Words, N: Listed>(
     Ok(Some(point))
 }
 
-// The reduced costs of the rows' logicals.
+// The reduced costs of the rows' logicals, which are the multipliers of the rows. None where one does not fit its kind.
 fn multipliers<T: Words, N: Listed>(
     alloc: Global,
     tab: &RowTableau<T>,
@@ -256,7 +258,8 @@ fn multipliers<T: Words, N: Listed>(
     Ok(Some(multipliers))
 }
 
-// How the model's columns move while the entering column rises or falls by 1.
+// How the structural columns move while the entering column rises or falls by 1. None where a number does not fit its
+// kind.
 fn direction<T: Words, N: Listed>(
     alloc: Global,
     tab: &RowTableau<T>,
@@ -280,7 +283,8 @@ fn direction<T: Words, N: Listed>(
 
 // ---- certificates
 
-// The certificate of an infeasible model: the reduced costs of the rows' logicals.
+// The certificate that no point is feasible: the reduced costs of the rows' logicals at the end of phase one. None
+// where one does not fit its kind.
 fn infeasible<T: Words, N: Listed>(
     alloc: Global,
     tab: &RowTableau<T>,
@@ -296,7 +300,8 @@ fn infeasible<T: Words, N: Listed>(
     }
 }
 
-// The certificate of an optimum: the point, and the multipliers.
+// The certificate of an optimum: the point, and the multipliers. None where a number overflows the width of the words,
+// or does not fit its kind.
 fn optimal<T: Words, N: Listed>(
     alloc: Global,
     tab: &RowTableau<T>,
@@ -315,7 +320,8 @@ fn optimal<T: Words, N: Listed>(
     }
 }
 
-// The certificate of an unbounded model: the point, and the ray of the entering column.
+// The certificate that the model is unbounded: the point, and the ray of the entering column. None where a number
+// overflows the width of the words, or does not fit its kind.
 fn unbounded<T: Words, N: Listed>(
     alloc: Global,
     tab: &RowTableau<T>,
@@ -336,7 +342,8 @@ fn unbounded<T: Words, N: Listed>(
     }
 }
 
-// The certificate of an end of phase two.
+// The certificate of an end of phase two; none where a number overflows the width of the words, or does not fit its
+// kind.
 fn certificate_at<T: Words, N: Listed>(
     alloc: Global,
     tab: &RowTableau<T>,
@@ -386,7 +393,7 @@ fn status_at<T: Words>(tab: &RowTableau<T>, k: usize) -> Status
     tab.status[k]
 }
 
-// Whether a column is the logical of a row whose artificial is basic.
+// Whether column `k` is the logical of a row whose artificial is basic in its stead.
 fn is_in_its_place<T: Words>(tab: &RowTableau<T>, k: usize) -> bool
     requires whole { IsWhole T.value tab.now }
     requires inside { k < width tab.now }
@@ -409,7 +416,8 @@ fn basis_status<T: Words>(tab: &RowTableau<T>, k: usize) -> Status
     }
 }
 
-// The statuses of the model's columns and of the rows' logicals.
+// The statuses of the model's columns and then of the rows' logicals. A logical whose row's artificial is basic counts
+// as basic in its place.
 fn basis_statuses<T: Words>(alloc: Global, tab: &RowTableau<T>) -> Result<StatusList, AllocError>
     requires { IsWhole T.value tab.now }
     ensures { (t : tableaus.Tableau) → Shows T.value tab.now t →
@@ -422,7 +430,7 @@ fn basis_statuses<T: Words>(alloc: Global, tab: &RowTableau<T>) -> Result<Status
     Ok(list)
 }
 
-/// The statuses of the basis of an end, which an optimal one has.
+/// The statuses of the basis of an optimal end; another end has none.
 pub fn basis<T: Words>(
     alloc: Global,
     tab: &RowTableau<T>,

@@ -12,7 +12,8 @@ use lp_natural::words::{Signed, Words, less_products};
 use std::alloc::AllocError;
 use std::mem::swap;
 
-// Takes a product off the last number. Where it is false a number overflows the width, here and below.
+// Subtracts the product `a b` from a row's last number, which is the value of its basic column. Where the answer is
+// false a number overflows the width, and the row is as before.
 fn less_last<T: Words>(row: &mut Row<T>, n: usize, a: Signed<T>, b: Signed<T>) -> bool
     requires { IsRow T.value n row.old }
     ensures { IsTrue result → IsLess T.value n (over
@@ -32,7 +33,8 @@ fn less_last<T: Words>(row: &mut Row<T>, n: usize, a: Signed<T>, b: Signed<T>) -
     }
 }
 
-// Takes a whole number off the value of the row's basic column.
+// Subtracts a whole number, on the denominator of all bounds, from the value of the row's basic column. False where a
+// number overflows the width.
 fn take_off<T: Words>(row: &mut Row<T>, n: usize, by: Signed<T>) -> bool
     requires { IsRow T.value n row.old }
     ensures { IsTrue result → IsLess T.value n (over (whole by.negative (T.value by.size)) 1) row.old row.new }
@@ -54,7 +56,8 @@ fn negated<T: Words>(n: Signed<T>) -> Signed<T>
     }
 }
 
-// Moves the value of the row's basic column as column `j` moves by `by`.
+// Moves the value of the row's basic column as column `j` moves by `by`: by the opposite of the row's entry times that.
+// False where a number overflows the width.
 fn move_last<T: Words>(row: &mut Row<T>, n: usize, j: usize, by: Signed<T>) -> bool
     requires row { IsRow T.value n row.old }
     requires column { j < n }
@@ -65,7 +68,8 @@ fn move_last<T: Words>(row: &mut Row<T>, n: usize, j: usize, by: Signed<T>) -> b
     less_last(row, n, entry, by)
 }
 
-/// Moves each basic value as column `j` moves by a number on the denominator of all bounds.
+/// Moves each basic value as column `j` moves by `by`, on the denominator of all bounds. False where a number overflows
+/// the width.
 pub fn move_all<T: Words>(rows: &mut [Row<T>], n: usize, j: usize, by: Signed<T>) -> bool
     requires rows { All (IsRow T.value n) rows.old }
     requires column { j < n }
@@ -80,7 +84,8 @@ pub fn move_all<T: Words>(rows: &mut [Row<T>], n: usize, j: usize, by: Signed<T>
     true
 }
 
-// Takes a whole number off the basic value, and then divides the row by its entry in column `j`.
+// Subtracts a whole number from the basic value, and then divides the row by its entry in column `j`. False where a
+// number overflows the width, or that entry is 0.
 fn scale<T: Words>(row: &mut Row<T>, n: usize, j: usize, by: Signed<T>) -> bool
     requires row { IsRow T.value n row.old }
     requires column { j < n }
@@ -96,7 +101,8 @@ fn scale<T: Words>(row: &mut Row<T>, n: usize, j: usize, by: Signed<T>) -> bool
     reduce(row)
 }
 
-// Takes the multiple of another row off a row with which its entry in column `j` becomes 0.
+// Subtracts from a row its entry in column `j` times the row `own`, so that this entry becomes 0 where that of `own` is
+// 1. False where a number overflows the width.
 fn clear_one<T: Words>(row: &mut Row<T>, own: &Row<T>, n: usize, j: usize) -> bool
     requires row { IsRow T.value n row.old }
     requires own { IsRow T.value n own.now }
@@ -112,7 +118,8 @@ fn clear_one<T: Words>(row: &mut Row<T>, own: &Row<T>, n: usize, j: usize) -> bo
     reduce(row)
 }
 
-// Clears column `j` in each row.
+// Subtracts from each row its entry in column `j` times the row `own`, so that these entries become 0 where that of
+// `own` is 1. False where a number overflows the width.
 fn clear_all<T: Words>(rows: &mut [Row<T>], own: &Row<T>, n: usize, j: usize) -> bool
     requires rows { All (IsRow T.value n) rows.old }
     requires own { IsRow T.value n own.now }
@@ -145,8 +152,9 @@ impl<T: Copy> Clone for Turn<T> {
     }
 }
 
-/// Turns the rows and the reduced costs as a pivot does. The costs are in the list of rows at `place` meanwhile, so
-/// that each row of the list is cleared.
+/// Changes the rows, their values and the reduced costs as a pivot does. The costs are in the list of rows at `place`
+/// meanwhile, so that each row of the list is cleared. False where a number overflows the width, or the pivot's entry
+/// is 0.
 pub fn turn_rows<T: Words>(rows: &mut [Row<T>], costs: &mut Row<T>, n: usize, turn: Turn<T>) -> bool
     requires rows { All (IsRow T.value n) rows.old }
     requires costs { IsRow T.value n costs.old }

@@ -41,7 +41,7 @@ pub fn common_bounds<T: Words>(
     }
 }
 
-// The bounds as whole numbers on this denominator.
+// The bounds as whole numbers on this denominator. None where one is not whole, or overflows the width.
 fn bounds_with<T: Words>(
     alloc: Global,
     lower: &[Option<Frac>],

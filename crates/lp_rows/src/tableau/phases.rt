@@ -12,7 +12,7 @@ use lp_form::Form;
 use lp_natural::words::Words;
 use std::alloc::{AllocError, Global};
 
-// Whether some column of the list is not below `first`.
+// Whether a column of the list is `first` or behind it.
 fn any_from(cols: &[u32], first: usize) -> bool
     ensures { result ≡ list_any (λ k. nat_le first k) cols.now }
 {
@@ -61,8 +61,8 @@ pub fn is_stuck<T: Words>(tab: &RowTableau<T>) -> bool
     false
 }
 
-/// Fixes the artificial columns at 0, and sets the reduced costs of the form's costs. Where it is false a number
-/// overflows the width, and the tableau is as before. Where memory runs out, nothing is promised of it.
+/// Fixes the artificial columns at 0, and sets the reduced costs by the form's costs. Where the answer is false a
+/// number overflows the width, and the tableau is as before. Where memory runs out, nothing is promised of it.
 pub fn phase_two<T: Words>(
     alloc: Global,
     tab: &mut RowTableau<T>,

@@ -41,7 +41,8 @@ fn or_zero<T: Words>(bound: Option<Signed<T>>) -> Signed<T>
     }
 }
 
-/// The value of a nonbasic column of this status with these bounds, and 0 for a basic one.
+/// The value of a nonbasic column of this status with these bounds, and 0 for a basic one, or where the bound that the
+/// status names is absent.
 pub fn stand<T: Words>(
     status: Status,
     lower: Option<Signed<T>>,
@@ -75,8 +76,8 @@ fn flip<T: Words>(tab: &mut RowTableau<T>, col: usize) -> bool
     true
 }
 
-// Makes the pivot's column basic at its position, whose column goes to the bound `to`. An artificial that leaves is at
-// 0 for good.
+// Makes the pivot's column basic at its position. The column that was basic there goes to the bound `to`; an artificial
+// one has the upper bound 0 from then on.
 fn exchange<T: Words>(tab: &mut RowTableau<T>, at: Pivot, to: Status)
     requires rows { length tab.old.rows.items ≤ 256 }
     requires cols { tab.old.cols ≤ 512 }
@@ -103,7 +104,9 @@ fn exchange<T: Words>(tab: &mut RowTableau<T>, at: Pivot, to: Status)
     }
 }
 
-// Makes a pivot. Where it is false a number overflows the width, and the tableau is spent.
+// Makes a pivot: its column becomes basic at its position, the column that was there goes to the bound `to`, and the
+// rows, the basic values and the reduced costs follow. Where it is false a number overflows the width, or the pivot's
+// entry is 0, and the tableau is spent.
 fn pivot<T: Words>(tab: &mut RowTableau<T>, at: Pivot, to: Status) -> bool
     requires whole { IsWhole T.value tab.old }
     requires place { at.position < height tab.old }
@@ -126,7 +129,8 @@ fn pivot<T: Words>(tab: &mut RowTableau<T>, at: Pivot, to: Status) -> bool
     true
 }
 
-/// Makes the flip or the pivot of a step. Where it is false a number overflows the width, and the tableau is spent.
+/// Makes the flip or the pivot of a step; an end changes nothing. Where it is false a number overflows the width, or
+/// the pivot's entry is 0, and the tableau is spent.
 pub fn make<T: Words>(tab: &mut RowTableau<T>, step: Step) -> bool
     requires whole { IsWhole T.value tab.old }
     requires inside { MayMake tab.old step }

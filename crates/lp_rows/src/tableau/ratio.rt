@@ -24,7 +24,8 @@ pub(crate) fn is_zero<T: Words>(n: Signed<T>) -> bool
     n.size.is_zero()
 }
 
-// What stops the entering column between its own bounds.
+// The stop of the entering column at its own other bound, as far as its bounds are apart. None where that overflows the
+// width.
 fn stop_between<T: Words>(e: Entering, lower: Signed<T>, upper: Signed<T>) -> Option<Stopper<T>>
     ensures value { (d : ℕ) → 0 < d → IfSome result (λ s.
         step.range_run None e (bound_of T.value d (Some lower)) (bound_of T.value d (Some upper)) ≡
@@ -43,7 +44,7 @@ fn stop_between<T: Words>(e: Entering, lower: Signed<T>, upper: Signed<T>) -> Op
     }
 }
 
-// What stops the entering column between its own bounds, if it has both.
+// The stop of the entering column at its own other bound, if it has both. An overflow is an error.
 fn range<T: Words>(
     e: Entering,
     lower: Option<Signed<T>>,
@@ -63,7 +64,8 @@ fn range<T: Words>(
     }
 }
 
-// What stops the entering column in a position, if anything does.
+// The stop of the entering column at a position, whose basic column comes to a bound; none if it comes to none. An
+// overflow is an error.
 fn stop_at<T: Words>(way: Way, at: Position<T>) -> Result<Option<Stopper<T>>, Overflow>
     requires { 0 < T.value at.denominator }
     ensures value { IfOk result (λ s. (d : ℕ) → 0 < d → (best : Option (Best ℚ)) →
@@ -88,7 +90,7 @@ fn stop_at<T: Words>(way: Way, at: Position<T>) -> Result<Option<Stopper<T>>, Ov
     Ok(stopper_at(at, gap))
 }
 
-// The one of two stops that comes first, where both are there; else the one that is there.
+// The one of two stops that comes first, where both are there; else the one that is there; none if neither is.
 fn first<T: Words>(new: Option<Stopper<T>>, best: Option<Stopper<T>>) -> Option<Stopper<T>>
     requires new { (n : ℕ) × IsStop T.value n new }
     requires best { (n : ℕ) × IsStop T.value n best }
@@ -103,7 +105,8 @@ fn first<T: Words>(new: Option<Stopper<T>>, best: Option<Stopper<T>>) -> Option<
     }
 }
 
-// What stops it in position `i`.
+// The stop of the entering column at position `i`, whose basic column comes to a bound; none if it comes to none. An
+// overflow is an error.
 fn stop_in<T: Words>(
     tab: &RowTableau<T>,
     e: Entering,
@@ -130,7 +133,8 @@ fn stop_in<T: Words>(
     stop_at(e.direction, at)
 }
 
-// The stop that comes first among those of earlier positions and that of position `i`.
+// The one that comes first of `best` and the stop of position `i`; none if neither is there. `best` is the first of the
+// entering column's own other bound and the stops of earlier positions. An overflow is an error.
 fn first_with<T: Words>(
     tab: &RowTableau<T>,
     e: Entering,
@@ -150,7 +154,8 @@ fn first_with<T: Words>(
     Ok(first(stop, best))
 }
 
-/// What stops the entering column first, if anything does.
+/// What stops the entering column first, its own other bound or a basic column; nothing where it may move without end.
+/// An overflow is an error.
 pub(crate) fn first_stop<T: Words>(
     tab: &RowTableau<T>,
     e: Entering,

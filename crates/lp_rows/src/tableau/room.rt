@@ -9,7 +9,8 @@ use crate::tableau::tableau::RowTableau;
 use lp_natural::words::{Signed, Words};
 use lp_tableau::Pivot;
 
-// Whether a product of numbers of so many bits, and a sum with another product, is within the width.
+// Whether the product of two numbers with `a` and `b` bits, and a sum with another such product, is within the width
+// whatever these numbers are.
 fn fits<T: Words>(a: u32, b: u32) -> bool {
     a.wrapping_add(b).wrapping_add(2) <= T::width()
 }
@@ -32,7 +33,7 @@ fn bits_of_bound<T: Words>(bound: Option<Signed<T>>) -> u32 {
     }
 }
 
-// The most bits that a number of a row has in use, or its denominator.
+// The most bits that any number of a row, or its denominator, has in use.
 fn bits_of_row<T: Words>(row: &Row<T>) -> u32 {
     let mut most = row.denominator;
     for number in &row.numbers {
@@ -41,8 +42,8 @@ fn bits_of_row<T: Words>(row: &Row<T>) -> u32 {
     most.bits()
 }
 
-// Whether a row whose entry in column `j` is not 0 has room for `a` times it less that entry times another row, where
-// `a` and the other row's numbers have so many bits.
+// Whether a row has room for `a` times it less its entry in column `j` times another row, where `a` and the numbers of
+// the other row have so many bits. It has where that entry is 0, since the row stays then.
 fn has_room<T: Words>(row: &Row<T>, j: usize, a: u32, other: u32) -> bool
     requires { j < length row.now.numbers.items }
 {
@@ -50,7 +51,8 @@ fn has_room<T: Words>(row: &Row<T>, j: usize, a: u32, other: u32) -> bool
     entry == 0 || (fits::<T>(entry, other) && fits::<T>(bits_of_row(row), a))
 }
 
-// Whether all rows and the reduced costs have room for a step in column `j`, with multipliers of so many bits.
+// Whether all rows and the reduced costs have room for a step in column `j`: for a multiplier of `a` bits of their own,
+// and another row whose numbers have `other` bits.
 fn all_have_room<T: Words>(tab: &RowTableau<T>, j: usize, a: u32, other: u32) -> bool
     requires whole { IsWhole T.value tab.now }
     requires column { j < width tab.now }
@@ -71,7 +73,7 @@ fn bits_of_bounds<T: Words>(tab: &RowTableau<T>, k: usize) -> u32
     more(bits_of_bound(tab.lower[k]), bits_of_bound(tab.upper[k]))
 }
 
-// Whether a flip of column `j` is likely to stay within the width.
+// Whether a flip of column `j` is likely to stay within the width, by the bits in use.
 fn flip_has_room<T: Words>(tab: &RowTableau<T>, j: usize) -> bool
     requires whole { IsWhole T.value tab.now }
     requires column { j < width tab.now }
@@ -79,7 +81,7 @@ fn flip_has_room<T: Words>(tab: &RowTableau<T>, j: usize) -> bool
     all_have_room(tab, j, 0, bits_of_bounds(tab, j))
 }
 
-// Whether a pivot is likely to stay within the width.
+// Whether a pivot is likely to stay within the width, by the bits in use.
 fn pivot_has_room<T: Words>(tab: &RowTableau<T>, at: Pivot) -> bool
     requires whole { IsWhole T.value tab.now }
     requires place { at.position < height tab.now }

@@ -15,8 +15,8 @@ use std::alloc::{AllocError, Global};
 
 // ---- costs
 
-// Takes the multiple of the other row off that the entry in column `j` says, and takes out a common divisor. Where it
-// is false a number overflows the width, and the row is spent.
+// Subtracts from a row its entry in column `j` times the other row, so that this entry becomes 0 where the other row's
+// is 1, and takes out a common divisor. Where the answer is false a number overflows the width, and the row is spent.
 fn clear_reduced<T: Words>(row: &mut Row<T>, other: &Row<T>, j: usize) -> bool
     requires same { length other.now.numbers.items ≡ length row.old.numbers.items }
     requires column { j < length row.old.numbers.items }
@@ -36,7 +36,8 @@ fn clear_reduced<T: Words>(row: &mut Row<T>, other: &Row<T>, j: usize) -> bool
     }
 }
 
-// Takes a position's row off the costs as often as the cost of its basic column says, which is 0 of an artificial one.
+// Subtracts from the costs the row of a position times the cost of its basic column, which becomes 0 where the row's
+// entry there is 1. An artificial one has the cost 0 already. False where a number overflows the width.
 fn take_off<T: Words>(tab: &RowTableau<T>, costs: &mut Row<T>, i: usize) -> bool
     requires whole { IsWhole T.value tab.now }
     requires place { i < height tab.now }
@@ -51,7 +52,8 @@ fn take_off<T: Words>(tab: &RowTableau<T>, costs: &mut Row<T>, i: usize) -> bool
     }
 }
 
-// Takes the rows of all positions off the costs so. Where it is false a number overflows the width.
+// Subtracts from the costs the row of each position in order, times the cost of its basic column then. So the costs of
+// basic columns become 0 where each has an entry, 1, in its own row alone. False where a number overflows the width.
 fn take_off_all<T: Words>(tab: &RowTableau<T>, costs: &mut Row<T>) -> bool
     requires whole { IsWhole T.value tab.now }
     requires row { IsRow T.value (width tab.now) costs.old }
@@ -65,7 +67,7 @@ fn take_off_all<T: Words>(tab: &RowTableau<T>, costs: &mut Row<T>) -> bool
     true
 }
 
-// The costs less all rows, if no number overflows the width.
+// The reduced costs, by the rows of all positions, for these costs; none where a number overflows the width.
 fn reduced<T: Words>(tab: &RowTableau<T>, costs: Row<T>) -> Option<Row<T>>
     requires whole { IsWhole T.value tab.now }
     requires row { IsRow T.value (width tab.now) costs }
@@ -79,7 +81,7 @@ fn reduced<T: Words>(tab: &RowTableau<T>, costs: Row<T>) -> Option<Row<T>>
     }
 }
 
-/// The reduced costs of the form's costs, if no number overflows the width.
+/// The reduced costs for the form's costs; none where a number overflows the width.
 pub fn priced<T: Words>(
     alloc: Global,
     tab: &RowTableau<T>,
@@ -99,7 +101,7 @@ pub fn priced<T: Words>(
 
 // ---- bounds
 
-// Sets the bounds from that of column `first` on to 0.
+// Sets the bounds of all columns from `first` on to 0.
 fn zero_from<T: Words>(bounds: &mut [Option<Signed<T>>], first: usize)
     ensures { AreZeroed T.value first (length bounds.old) bounds.old bounds.new }
 {
@@ -111,7 +113,7 @@ fn zero_from<T: Words>(bounds: &mut [Option<Signed<T>>], first: usize)
     }
 }
 
-// Replaces the row of costs, and fixes the artificial columns at 0.
+// Replaces the row of reduced costs, and fixes the artificial columns at 0.
 pub(crate) fn begin<T: Words>(tab: &mut RowTableau<T>, costs: Row<T>)
     requires { IsWhole T.value tab.old }
     ensures { IsBegun T.value tab.old costs tab.new }

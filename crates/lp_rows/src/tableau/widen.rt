@@ -11,7 +11,7 @@ use crate::tableau::tableau::RowTableau;
 use lp_natural::words::{Signed, Words, converted};
 use std::alloc::{AllocError, Global};
 
-// A number in words of another width, or `None` where it overflows them.
+// A number in words of another width; none where it overflows them.
 fn number<T: Words, U: Words>(n: Signed<T>) -> Option<Signed<U>>
     ensures { IfSome result (λ m. whole_of U.value m ≡ whole_of T.value n) }
 {
@@ -41,7 +41,7 @@ fn numbers<T: Words, U: Words>(
     Ok(Some(list))
 }
 
-// A bound, if there is one, in words of another width, if it does not overflow them.
+// A bound, if there is one, in words of another width; an error where it overflows them.
 fn bound<T: Words, U: Words>(b: Option<Signed<T>>) -> Result<Option<Signed<U>>, Overflow>
     ensures { IfOk result (λ c. option_map (whole_of U.value) c ≡ option_map (whole_of T.value) b) }
 {
@@ -104,7 +104,7 @@ fn rows<T: Words, U: Words>(
     Ok(Some(list))
 }
 
-// The bounds of all columns, if none overflows the other width.
+// The bounds of all columns, and their denominator, in words of another width; none where one overflows them.
 fn all_bounds<T: Words, U: Words>(
     alloc: Global,
     tab: &RowTableau<T>,
@@ -127,7 +127,7 @@ fn all_bounds<T: Words, U: Words>(
     }
 }
 
-// The basic columns, the statuses, and which columns are fixed.
+// Copies of the lists of basic columns, of statuses, and of which columns are fixed.
 fn standing<T: Words>(alloc: Global, tab: &RowTableau<T>) -> Result<Standing, AllocError>
     ensures basic { IfOk result (λ s. s.basic.items ≡ tab.now.basic.items) }
     ensures status { IfOk result (λ s. s.status.items ≡ tab.now.status.items) }
