@@ -24,6 +24,7 @@ module _ (limit : Option ℕ) (t : Tableau) where
     chosen_is best g = from_best ∙ ap (λ o. o >>= λ best. Ok (choice_by e best)) g
 
   -- ---- it may be done
+  -- where a column may enter, and is stopped so, the flip or the pivot that follows may be made
   at_place : (e : Entering) (x : Best ℚ) (place : Option ℕ) → MayEnter t (all_columns t) e →
       StopsBy t e x.ratio x.to place → CanMake t (choice_at e x place)
   at_place e x None m s =

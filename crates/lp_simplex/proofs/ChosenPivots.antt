@@ -15,6 +15,7 @@ use Rattle.spec_runs.proofs.Fits.{IsLeaving, leaving_is}
 use Rattle.lp_simplex.specs.Starts.{HasPlace, IsSeated, CanEnter}
 use Rattle.lp_simplex.proofs.DualEntering.{MayEnter, best_enters}
 
+-- the status of the bound that a value has passed, below the lower or above the upper one, names that bound
 passed : (way : Way) (lower upper : Option ℚ) (v c : ℚ) → IsPast way lower upper v c →
     NamesBound (bound_behind way) lower upper c
 passed Up lower upper v c h = h.0

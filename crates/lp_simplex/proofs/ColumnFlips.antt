@@ -62,13 +62,16 @@ module _ (t : Tableau) (s : IsSeated t) (j : ℕ) (inside : j < all_columns t)
       }
 
 -- ---- all of them
+-- what is done at column k: if it needs its other bound it flips, or it is `Spent` where the budget is used up; else
+-- nothing changes
 abbrev flip_at : Option ℕ → ℕ → ℕ → Reached → Result Reached (RunStop ℚ)
 flip_at limit budget k r = cond (needs_flip_at r.tableau k) (flip_next limit budget k r) (Ok r)
 
 abbrev begun : Tableau → Reached
 begun t = record { tableau = t; used = 0 }
 
--- after the columns below k
+-- the flips of the columns below k of `first` lead to r, which has as many columns; each basic column has a position,
+-- and each column from k on that needs its other bound may flip
 pub record Flipping (limit : Option ℕ) (budget : ℕ) (first : Tableau) (k : ℕ) (r : Reached) : Type 0 where
   pub so_far : steps k (flip_at limit budget) (begun first) ≡ Ok r
   pub columns : all_columns r.tableau ≡ all_columns first

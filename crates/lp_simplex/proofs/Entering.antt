@@ -13,6 +13,7 @@ use Rattle.spec_simplex.specs.Tableau.{Tableau, all_columns}
 use Rattle.spec_simplex.specs.Step.{way_by, way_at, or_enters, entering_below, entering}
 
 -- ---- what is known of it
+-- the column of e is one of the first n, and may enter in the direction of e
 pub record MayEnter (t : Tableau) (n : ℕ) (e : Entering) : Type 0 where
   pub inside : e.col < n
   pub way : way_at t e.col ≡ Some e.direction

@@ -55,7 +55,7 @@ abs_not_zero a n = by (int_lt a.num (pos 0))
 
 -- ---- a gap
 
--- by way of the upper bound, and by way of the lower one
+-- where r * -d is u - v, v less r * d is u
 up_to : (v u r d : ℚ) → r *ℚ neg_ℚ d ≡ u -ℚ v → v -ℚ r *ℚ d ≡ u
 up_to v u r d h = ap (λ x. v +ℚ x) (sym (*ℚ-neg r d) ∙ h) ∙ simp ring
 
@@ -63,7 +63,8 @@ up_to v u r d h = ap (λ x. v +ℚ x) (sym (*ℚ-neg r d) ∙ h) ∙ simp ring
 down_to : (v l r d : ℚ) → r *ℚ d ≡ v -ℚ l → v -ℚ r *ℚ d ≡ l
 down_to v l r d h = ap (λ x. v -ℚ x) h ∙ simp ring
 
--- what is known of a position with a gap
+-- the entry a is not 0, and a move of the entering column by the gap over a's absolute value takes the position's
+-- column, now at v, to the bound that `to` names
 pub record IsGap (way : Way) (a : ℚ) (lower upper : Option ℚ) (v gap : ℚ) (to : Status) : Type 0 where
   pub entry : a ≢ 0ℚ
   pub lands : (r : ℚ) → r *ℚ abs_ℚ a ≡ gap → NamesBound to lower upper (v -ℚ directed way r *ℚ a)
@@ -135,12 +136,13 @@ divides limit way a lower upper v gap to h =
 
 -- ---- the best
 
--- the column stops itself
+-- column j has both bounds
 pub record HasBoth (t : Tableau) (j : ℕ) : Type 0 where
   pub lower : (v : ℚ) × (lower_at t j ≡ Some v)
   pub upper : (v : ℚ) × (upper_at t j ≡ Some v)
 
--- position i stops it after r, and its column goes to a bound
+-- position i has an entry in the entering column, and a move of this by r takes the basic column there to its bound
+-- `to`
 pub record StopsAt (t : Tableau) (e : Entering) (r : ℚ) (to : Status) (i : ℕ) : Type 0 where
   pub place : i < t.rows
   pub entry : entry_at t i e.col ≢ 0ℚ
@@ -240,7 +242,7 @@ module _ (limit : Option ℕ) (t : Tableau) (e : Entering) where
       (λ first. steps t.rows (best_with limit t e) first) best h in
       steps_are t.rows o.0 best (omega arith) (range_is (lower_at t e.col) (upper_at t e.col) o.0 refl refl o.1) o.2
 
-  -- a refusal at position i
+  -- where the ratio test is refused an operation at position i, the whole test is refused it
   pub best_refused : (i : ℕ) (first best : Option (Best ℚ)) (p : Past ℚ) →
       range_run limit e (lower_at t e.col) (upper_at t e.col) ≡ Ok first →
       steps i (best_with limit t e) first ≡ Ok best → i < t.rows → best_with limit t e i best ≡ Err p →

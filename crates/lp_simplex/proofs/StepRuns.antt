@@ -42,7 +42,8 @@ module _ (limit : Option ℕ) where
 
 -- ---- how many steps are made
 
--- up to u, where `now` are counted, and `used` before them
+-- flips and pivots lead from t, with the count `used`, to u, with the count `now`; they are no more than the budget has
+-- left
 pub record IsUnderWay (budget used : ℕ) (t : Tableau) (now : ℕ) (u : Tableau) : Type 0 where
   pub count : ℕ
   pub counted : now ≡ used + count

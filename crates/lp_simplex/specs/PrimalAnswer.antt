@@ -12,33 +12,32 @@ use Rattle.spec_simplex.specs.Tableau.{Tableau}
 use Rattle.spec_simplex.specs.Step.{choice_run}
 use Rattle.spec_simplex.specs.Phases.{PrimalEnded, done_run}
 
--- a run of primal steps ends with this end, this tableau and this count of steps, or it stops for this reason
+-- the stated run of the primal method gives what the code gives: this end, at this tableau and count, or the same stop
 abbrev pub Runs : Result PrimalEnded (RunStop ℚ) → Tableau → ℕ → Result PrimalEnd (RunStop ℚ) → Type 0
 Runs answer t used (Ok end) = answer ≡ Ok (record { end = end; tableau = t; used = used })
 Runs answer t used (Err stop) = answer ≡ Err stop
 
 -- ---- how many steps are made before a stop
 
--- a flip or a pivot makes u of t
+-- the step that is chosen at t is a flip or a pivot, and takes t to u
 pub record IsStep (t u : Tableau) : Type 0 where
   pub choice : Choice ℚ
   pub chosen : choice_run (Some number_limit) t ≡ Ok choice
   pub no_end : (end : PrimalEnd) → choice ≢ End end
   pub done : done_run (Some number_limit) t choice ≡ Ok u
 
--- n flips or pivots make u of t
+-- n flips or pivots, one after the other, take t to u
 abbrev pub Steps : ℕ → Tableau → Tableau → Type 0
 Steps zero t u = t ≡ u
 Steps (suc n) t u = (v : Tableau) × Steps n t v × IsStep v u
 
--- why no step is made from t, where `now` are counted: an operation is refused in its choice or in the step itself, or
--- none is left of the budget
+-- a run stops at t, with the count `now`: as an operation of its next step is refused, or as the budget is used up
 abbrev pub StopsAt : ℕ → ℕ → Tableau → RunStop ℚ → Type 0
 StopsAt budget now t (Past p) = (choice_run (Some number_limit) t >>= done_run (Some number_limit) t) ≡ Err p
 StopsAt budget now t Spent = budget ≤ now
 
--- from t, before which `used` are counted, steps are made up to this stop, each is counted,
--- and they are within the budget
+-- a run from t with the count `used` makes flips and pivots within the budget, counts each of them, and then stops so,
+-- with the count `now`
 pub record StopsAfter (budget used : ℕ) (t : Tableau) (now : ℕ) (stop : RunStop ℚ) : Type 0 where
   pub count : ℕ
   pub last : Tableau

@@ -11,13 +11,13 @@ use Rattle.spec_simplex.specs.declared.ends.DualChoice.{DualChoice}
 use Rattle.spec_simplex.specs.declared.ends.DualChoice.TheVariants.{End, Pivot}
 use Rattle.spec_simplex.specs.Fit.{needs_flip_at}
 
--- column k has a position
+-- column k is the basic one of some position
 pub record HasPlace (t : Tableau) (k : ℕ) : Type 0 where
   pub place : ℕ
   pub inside : place < t.rows
   pub holds : basic_at t place ≡ k
 
--- each basic column has a position
+-- each basic column has a position, and there are as many basic columns and statuses listed as positions and columns
 pub record IsSeated (t : Tableau) : Type 0 where
   pub all_basic : length t.basic ≡ t.rows
   pub all_statuses : length t.status ≡ all_columns t
@@ -28,8 +28,8 @@ pub record IsDualStart (t : Tableau) : Type 0 where
   pub seated : IsSeated t
   pub flips : (k : ℕ) → k < all_columns t → needs_flip_at t k ≡ true → CanFlip t k
 
--- a dual pivot may be made: column j is not basic, its entry is not 0,
--- and the leaving column has the bound that it goes to
+-- a dual pivot may be made: column j is nonbasic, its entry at position p is not 0, and the column there has the bound
+-- that it goes to
 pub record CanEnter (t : Tableau) (p j : ℕ) (to : Status) : Type 0 where
   pub place : p < t.rows
   pub column : j < all_columns t
@@ -37,12 +37,12 @@ pub record CanEnter (t : Tableau) (p j : ℕ) (to : Status) : Type 0 where
   pub entry : entry_at t p j ≢ 0ℚ
   pub bound : (v : ℚ) × NamesBound to (lower_at t (basic_at t p)) (upper_at t (basic_at t p)) v
 
--- the position of a column that cannot come back is one of the tableau's
+-- if the end is an infeasible one, its position is one of the tableau's
 abbrev pub IsPlace : Tableau → DualEnd → Type 0
 IsPlace t Optimal = Unit {0}
 IsPlace t (Infeasible p way) = p < t.rows
 
--- a dual choice can be carried out: an end names a position, and a pivot one on which its column can enter
+-- the dual choice can be carried out: an infeasible end names a position, and a pivot one at which its column can enter
 abbrev pub CanTake : Tableau → DualChoice → Type 0
 CanTake t (End end) = IsPlace t end
 CanTake t (Pivot p j to) = CanEnter t p j to

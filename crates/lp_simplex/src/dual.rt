@@ -5,7 +5,7 @@
 //! | `fit` | whether a tableau is primal or dual feasible | src/dual/needs |
 //! | `run` | flips that give each reduced cost its sign, and then dual steps up to an end | src/dual/steps |
 //! | `position_of` | the position of a basic column, for ranging too | src/dual/choice |
-//! | `Fit`, `DualEnd` | what they answer | `spec_simplex`, `spec_simplex` |
+//! | `Fit`, `DualEnd` | what they answer | `spec_simplex` |
 //! | `fit_tableaus_can_run` | that a dual feasible tableau may be run | here |
 //!
 //! Each is exactly spec_simplex's `fit_run` or `dual_run`, up to the operation that overflows and
@@ -33,7 +33,8 @@ pub use needs::fit;
 pub use spec_simplex::{DualEnd, Fit};
 pub use steps::run;
 
-/// `run` takes the tableau of a dual feasible basis.
+/// A tableau of a basis that `fit` finds fit for the dual method may be given to `run`. Each basic column has a
+/// position, and each column that needs its other bound has one to go to.
 pub fn fit_tableaus_can_run()
     ensures { (limit : Option ℕ) (m n : ℕ) (f : Matrix) (cost : ℕ → ℚ) (b : Bounds) (t : Tableau) →
         IsBased m n f cost b t → fit_run limit t ≡ Ok Dual → IsDualStart t }

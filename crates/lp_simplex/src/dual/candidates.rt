@@ -21,7 +21,8 @@ pub(crate) struct Outside {
     pub(crate) direction: Way,
 }
 
-// The way in which column `k` moves as it enters, if it may bring the column that is outside back to its bound.
+// The way in which column `k` moves as it enters, if it may bring the column that is outside back to its bound; else
+// none.
 fn column_way(tab: &Tableau, out: Outside, k: u32) -> Option<Way>
     requires place { out.position < tab.now.rows }
     requires column { k < all_columns tab.now }
@@ -36,7 +37,8 @@ fn column_way(tab: &Tableau, out: Outside, k: u32) -> Option<Way>
     )
 }
 
-// The better of two columns: the one with the lesser ratio, and of equal ones the first.
+// The better of column `new` and the best one before, if there is one: the one with the lesser ratio, and of equal ones
+// `best`, which came first.
 fn cheaper(new: Cheapest, best: Option<Cheapest>) -> Result<Option<Cheapest>, Past>
     ensures { result ≡ dual.cheaper_run (Some number_limit) new best }
 {
@@ -69,7 +71,8 @@ fn cheapest_with(
     }
 }
 
-// The column with the least ratio, if any may enter.
+// The column that enters, by the dual ratio test: the one with the least ratio of reduced cost to entry, in absolute
+// values. None if no column may enter.
 pub(crate) fn cheapest(tab: &Tableau, out: Outside) -> Result<Option<Cheapest>, Past>
     requires { out.position < tab.now.rows }
     ensures { result ≡ dual.cheapest_run (Some number_limit) tab.now out.position out.direction }

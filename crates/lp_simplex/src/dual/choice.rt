@@ -26,7 +26,7 @@ pub fn position_of(tab: &Tableau, k: u32) -> u32
     position
 }
 
-// The bound that a column has passed which moves this way to come back.
+// The bound that a column outside has passed: the lower one if it has to move up to come back, else the upper one.
 fn bound_behind(way: Way) -> Status
     ensures { result ≡ bound_behind_of way }
 {
@@ -36,7 +36,8 @@ fn bound_behind(way: Way) -> Status
     }
 }
 
-// The next dual pivot, or the end of the run.
+// The next dual pivot, or the end of the run: `Optimal` where each basic value is within its bounds, `Infeasible` where
+// one is not and no column may enter.
 #[tactic(auto, unfolding(spec_simplex::specs::Dual::dual_choice_run))]
 pub(crate) fn choice(tab: &Tableau) -> Result<DualChoice, Past>
     requires { IsSeated tab.now }

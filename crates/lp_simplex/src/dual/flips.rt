@@ -9,7 +9,7 @@ ghost use Rattle.lp_simplex.specs.DualAnswer.{Reaches};
 use crate::dual::needs::needs_flip_at;
 use lp_tableau::{RunStop, Tableau};
 
-// Moves column `k` to its other bound, if the budget has a flip left.
+// Moves column `k` to its other bound and counts that. `Spent` if the budget has no flip left.
 fn flip_next(tab: &mut Tableau, used: &mut u64, budget: u64, k: u32) -> Result<(), RunStop>
     requires { CanFlip tab.old k }
     ensures { Reaches (dual.flip_next (Some number_limit) budget k (record { tableau = tab.old; used = used.old }))
@@ -23,7 +23,8 @@ fn flip_next(tab: &mut Tableau, used: &mut u64, budget: u64, k: u32) -> Result<(
     Ok(())
 }
 
-// Moves each column that needs its other bound there, in order.
+// Moves each column that is not fixed and whose reduced cost has the sign that calls for its other bound there, in
+// order, and counts the flips. `Spent` if the budget has too few.
 pub(crate) fn flips(tab: &mut Tableau, used: &mut u64, budget: u64) -> Result<(), RunStop>
     requires none_used { used.old ≡ 0 }
     requires ready { IsDualStart tab.old }

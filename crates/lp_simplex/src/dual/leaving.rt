@@ -10,7 +10,7 @@ use lp_tableau::Tableau;
 use spec_pivot::Way;
 use spec_simplex::Leaving;
 
-// Whether `v` is below the bound.
+// Whether `v` is below the bound; false where there is none.
 fn below_lower(bound: Option<Frac>, v: Frac) -> Result<bool, Past>
     ensures { result ≡ fit.below_lower (Some number_limit) bound v }
 {
@@ -20,7 +20,7 @@ fn below_lower(bound: Option<Frac>, v: Frac) -> Result<bool, Past>
     }
 }
 
-// Whether `v` is above the bound.
+// Whether `v` is above the bound; false where there is none.
 fn above_upper(bound: Option<Frac>, v: Frac) -> Result<bool, Past>
     ensures { result ≡ fit.above_upper (Some number_limit) bound v }
 {
@@ -30,7 +30,8 @@ fn above_upper(bound: Option<Frac>, v: Frac) -> Result<bool, Past>
     }
 }
 
-// The way in which `v` comes back inside its bounds, if it is below the lower one or above the upper one.
+// The way in which `v` comes back inside its bounds: up if it is below the lower one, down if it is above the upper
+// one. None if it is inside.
 fn outside(lower: Option<Frac>, upper: Option<Frac>, v: Frac) -> Result<Option<Way>, Past>
     ensures { result ≡ fit.outside_run (Some number_limit) lower upper v }
 {
@@ -43,7 +44,7 @@ fn outside(lower: Option<Frac>, upper: Option<Frac>, v: Frac) -> Result<Option<W
     Ok(None)
 }
 
-// Column `col` as the one that leaves, if its value is outside its bounds.
+// Column `col` as the one that leaves, if its value is outside its bounds; else none.
 fn leaving_at(tab: &Tableau, col: u32) -> Result<Option<Leaving>, Past>
     requires { col < all_columns tab.now }
     ensures { result ≡ fit.leaving_at (Some number_limit) tab.now col }
@@ -54,7 +55,8 @@ fn leaving_at(tab: &Tableau, col: u32) -> Result<Option<Leaving>, Past>
     }
 }
 
-// The first basic column outside its bounds up to column `col`. Nothing is compared after the first.
+// The first basic column outside its bounds up to column `col`, where `first` is that of the columns before; none if
+// there is none. Nothing is compared after the first.
 fn leaving_with(tab: &Tableau, col: u32, first: Option<Leaving>) -> Result<Option<Leaving>, Past>
     requires { col < all_columns tab.now }
     ensures { result ≡ fit.leaving_with (Some number_limit) tab.now col first }
@@ -69,7 +71,7 @@ fn leaving_with(tab: &Tableau, col: u32, first: Option<Leaving>) -> Result<Optio
     }
 }
 
-// The first basic column that is outside its bounds, if one is.
+// The first basic column that is outside its bounds; none if each is within them.
 pub(crate) fn leaving(tab: &Tableau) -> Result<Option<Leaving>, Past>
     ensures { result ≡ fit.leaving_run (Some number_limit) tab.now }
 {

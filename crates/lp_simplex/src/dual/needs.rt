@@ -10,7 +10,7 @@ use lp_frac::{Frac, Past, is_negative, is_positive};
 use lp_tableau::{Tableau, is_fixed, is_zero};
 use spec_simplex::{Fit, Leaving};
 
-// Whether a column of this status and reduced cost needs its other bound.
+// Whether the reduced cost of a column of this status has the sign that calls for its other bound.
 fn needs_flip(status: Status, reduced: Frac) -> bool
     ensures { result ≡ spec.needs_flip status reduced }
 {
@@ -21,7 +21,8 @@ fn needs_flip(status: Status, reduced: Frac) -> bool
     }
 }
 
-// Whether a column has the other bound, if it needs it. A column without bounds needs the reduced cost 0.
+// Whether the reduced cost of a column suits its status, or the column has the other bound, to which it may go. A
+// column at 0 needs the reduced cost 0.
 fn meets_need(status: Status, reduced: Frac, lower: Option<Frac>, upper: Option<Frac>) -> bool
     ensures { result ≡ spec.meets_need status reduced lower upper }
 {
@@ -41,7 +42,7 @@ pub(crate) fn needs_flip_at(tab: &Tableau, k: u32) -> bool
     !is_fixed(tab.lower(k), tab.upper(k)) && needs_flip(tab.status(k), tab.reduced(k))
 }
 
-// Whether column `k` has the bound that it needs. A fixed one needs nothing.
+// Whether the reduced cost of column `k` has the right sign, or gets it by a flip. A fixed column needs nothing.
 fn meets_need_at(tab: &Tableau, k: u32) -> bool
     requires { k < all_columns tab.now }
     ensures { result ≡ spec.meets_need_at tab.now k }
@@ -50,7 +51,7 @@ fn meets_need_at(tab: &Tableau, k: u32) -> bool
         || meets_need(tab.status(k), tab.reduced(k), tab.lower(k), tab.upper(k))
 }
 
-// Whether each column has the bound that it needs.
+// Whether the reduced cost of each column that is not fixed has the right sign, or gets it by a flip.
 fn all_meet(tab: &Tableau) -> bool
     ensures { result ≡ spec.all_meet tab.now (all_columns tab.now) }
 {
@@ -73,9 +74,9 @@ fn fit_by(tab: &Tableau, outside: Option<Leaving>) -> Fit
 }
 
 /// The method that a tableau is fit for: the primal one where each basic value is within its bounds, else the dual one
-/// or neither. It is fit for the dual one where each reduced cost has the sign that it needs, or gets it when its
-/// column goes to its other bound. The values are compared with their bounds in order, up to the first one outside
-/// them.
+/// or neither. It is fit for the dual one where the reduced cost of each column that is not fixed has the sign that it
+/// needs, or gets it when the column goes to its other bound. The values are compared with their bounds in order, up to
+/// the first one outside them.
 #[tactic(auto, unfolding(spec_simplex::specs::Fit::fit_run))]
 pub fn fit(tab: &Tableau) -> Result<Fit, Past>
     ensures { result ≡ spec.fit_run (Some number_limit) tab.now }

@@ -25,7 +25,7 @@ fn pivot(tab: &mut Tableau, at: Pivot, to: Status) -> Result<(), Past>
     tab.pivot(at, theta, to)
 }
 
-// Takes dual steps up to an end, and counts them.
+// Takes dual steps up to an end, and counts them. `Spent` where the budget has no pivot left.
 fn steps(tab: &mut Tableau, used: &mut u64, budget: u64) -> Result<DualEnd, RunStop>
     requires { IsSeated tab.old }
     ensures runs { DualRuns (dual.dual_from (Some number_limit) (budget - used.old) used.old tab.old)
@@ -50,10 +50,10 @@ fn steps(tab: &mut Tableau, used: &mut u64, budget: u64) -> Result<DualEnd, RunS
     }
 }
 
-/// Gives each reduced cost the sign that it needs by flips, and then takes dual steps. It ends `Optimal` where each
-/// value is within its bounds, and `Infeasible` where one is not and no column can bring it back. It ends `Past` where
-/// an operation overflows, and `Spent` where `budget` flips and pivots were made. `used` counts them. After
-/// `Past` the tableau is spent.
+/// Gives the reduced costs of columns that are not fixed their signs by flips, and then takes dual steps. It ends
+/// `Optimal` where each basic value is within its bounds, and `Infeasible` where one is not and no column can bring it
+/// back; `Past` where an operation overflows, and `Spent` where one more flip or pivot is due after `budget` of them.
+/// `used` counts them. After `Past` the tableau is spent.
 ///
 /// `IsDualStart` holds of the tableau of a dual feasible basis.
 #[tactic(auto, unfolding(spec_simplex::specs::Dual::dual_run))]

@@ -12,7 +12,8 @@ use spec_simplex::Entering;
 /// A flip, a pivot, or the end of the run.
 pub type Choice = spec_simplex::Choice<Frac>;
 
-/// The step for the entering column, where `best` is the least ratio of the ratio test.
+/// The step for the entering column, where `best` is the least ratio of the ratio test: a pivot, or a flip where its
+/// own bound is met first. Without a ratio it is the end, as unbounded.
 pub fn chosen(e: Entering, best: Option<Best>) -> Choice
     ensures { result ≡ choice_by e best }
 {
@@ -31,7 +32,7 @@ pub fn chosen(e: Entering, best: Option<Best>) -> Choice
     }
 }
 
-// The next flip or pivot, or the end of the run.
+// The next flip or pivot, by Bland's rule and the ratio test, or the end of the run.
 #[tactic(auto, unfolding(spec_simplex::specs::Step::choice_run))]
 pub(crate) fn choice(tab: &Tableau) -> Result<Choice, Past>
     ensures value { result ≡ choice_run (Some number_limit) tab.now }

@@ -11,7 +11,7 @@ use spec_pivot::Way;
 use spec_simplex::Entering;
 use std::cmp::Ordering;
 
-/// The way in which a column of this status and reduced cost moves, if it may enter.
+/// The way in which a column of this status and reduced cost moves as it enters; none if it should not enter.
 pub fn way(status: Status, reduced: Frac) -> Option<Way>
     ensures { result ≡ way_by status reduced }
 {
@@ -28,7 +28,7 @@ pub fn way(status: Status, reduced: Frac) -> Option<Way>
     }
 }
 
-// The way in which column `k` moves, if it may enter.
+// The way in which column `k` moves as it enters; none if it may not, or is fixed.
 fn column_way(tab: &Tableau, k: u32) -> Option<Way>
     requires { k < all_columns tab.now }
     ensures { result ≡ way_at tab.now k }
@@ -42,7 +42,7 @@ fn column_way(tab: &Tableau, k: u32) -> Option<Way>
     Some(direction)
 }
 
-// The least column that may enter.
+// The least column that may enter, with its way; none if no one may.
 pub(crate) fn entering(tab: &Tableau) -> Option<Entering>
     ensures value { result ≡ entering_of tab.now }
     ensures inside { IfSome result (λ e. e.col < all_columns tab.now) }

@@ -16,7 +16,7 @@ use std::cmp::Ordering;
 /// The least ratio so far.
 pub type Best = spec_simplex::Best<Frac>;
 
-/// How far the entering column itself may move, where it has both bounds.
+/// How far the entering column itself may move to its other bound; none where it does not have both.
 pub fn range(e: Entering, lower: Option<Frac>, upper: Option<Frac>) -> Result<Option<Best>, Past>
     ensures { result ≡ step.range_run (Some number_limit) e lower upper }
 {
@@ -31,7 +31,7 @@ pub fn range(e: Entering, lower: Option<Frac>, upper: Option<Frac>) -> Result<Op
     }
 }
 
-// How far a basic value may rise, and the bound that it comes to, if there is one.
+// How far a basic value may rise to its upper bound, and the status there; none without one.
 fn rise(upper: Option<Frac>, value: Frac) -> Result<Option<(Frac, Status)>, Past>
     ensures { result ≡ step.rise_run (Some number_limit) upper value }
 {
@@ -41,7 +41,7 @@ fn rise(upper: Option<Frac>, value: Frac) -> Result<Option<(Frac, Status)>, Past
     }
 }
 
-// How far a basic value may fall, and the bound that it comes to, if there is one.
+// How far a basic value may fall to its lower bound, and the status there; none without one.
 fn fall(lower: Option<Frac>, value: Frac) -> Result<Option<(Frac, Status)>, Past>
     ensures { result ≡ step.fall_run (Some number_limit) lower value }
 {
@@ -51,7 +51,8 @@ fn fall(lower: Option<Frac>, value: Frac) -> Result<Option<(Frac, Status)>, Past
     }
 }
 
-// How far a basic column may move, whose position has this entry, and the bound that it comes to.
+// How far the basic column of a position with this entry may move as the entering one moves this way, and the status at
+// the bound that it comes to. None where it stays, or comes to no bound.
 #[inline(always)]
 fn gap(
     way: Way,
@@ -97,8 +98,8 @@ pub struct Position {
     pub value: Frac,
 }
 
-/// The best ratio of the positions that were compared before and of one more, where the entering column moves in this
-/// way.
+/// The best of `best`, the least ratio of the entering column's own range and the positions compared before, and of the
+/// ratio at one more, where the entering column moves this way. None where neither is there.
 #[inline(always)]
 pub fn best_at(way: Way, at: Position, best: Option<Best>) -> Result<Option<Best>, Past>
     ensures { result ≡ best_at_of way at.place at.col at.entry at.lower at.upper at.value best }
@@ -121,7 +122,8 @@ pub fn best_at(way: Way, at: Position, best: Option<Best>) -> Result<Option<Best
     }
 }
 
-// The best ratio of the positions that were compared before and of position `i`.
+// The best of `best`, the least ratio of the entering column's own range and the positions compared before, and of the
+// ratio of position `i`. None where neither is there.
 fn best_with(tab: &Tableau, e: Entering, i: u32, best: Option<Best>) -> Result<Option<Best>, Past>
     requires column { e.col < all_columns tab.now }
     requires place { i < tab.now.rows }
@@ -139,7 +141,7 @@ fn best_with(tab: &Tableau, e: Entering, i: u32, best: Option<Best>) -> Result<O
     best_at(e.direction, at, best)
 }
 
-// The least ratio of all positions and of the column's own range, if anything stops it.
+// The least ratio of all positions and of the entering column's own range; none where nothing stops it.
 pub(crate) fn best(tab: &Tableau, e: Entering) -> Result<Option<Best>, Past>
     requires { e.col < all_columns tab.now }
     ensures { result ≡ step.best_run (Some number_limit) tab.now e }

@@ -34,7 +34,7 @@ fn make(tab: &mut Tableau, choice: Choice) -> Result<(), Past>
 }
 
 /// Takes steps until no column may enter (`Optimal`), nothing stops the column that enters
-/// (`Unbounded`), an operation overflows (`Past`), or `budget` pivots and flips were made
+/// (`Unbounded`), an operation overflows (`Past`), or one more is due after `budget` pivots and flips
 /// (`Spent`). `used` counts them, whether they end or stop. After `Past` the tableau is spent.
 pub fn run(tab: &mut Tableau, used: &mut u64, budget: u64) -> Result<PrimalEnd, RunStop>
     ensures ended { Runs (run_from (Some number_limit) (budget - used.old) used.old tab.old) tab.new used.new result }
