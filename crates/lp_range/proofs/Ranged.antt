@@ -29,7 +29,7 @@ use Rattle.std.proofs.Common.{⊎_elim}
 use Rattle.lp_range.specs.Answer.{Start, IsFrom}
 use Rattle.lp_range.proofs.Seated.{Suited, suited}
 
--- a column that is moved has an entry
+-- where none of three tests holds, the last one does not hold
 last_false : (x y z : Bool) → not (x || (y || z)) ≡ true → z ≡ false
 last_false true y z e = let o : false ≡ true = e in cc
 last_false false true z e = let o : false ≡ true = e in cc
@@ -44,15 +44,19 @@ moved_entry t p k e z =
 
 module _ (limit : Option ℕ) (m : Model) (f : Form) (basis : List Status) (formed : form_of limit m ≡ Ok f)
     (keeps : Keeps m basis) where
+  -- the form of a model that the basis keeps is the one at the limit
   same_form : keeps.form ≡ f
   same_form = ok_same keeps.form f (sym keeps.formed ∙ form_without limit m f formed)
 
+  -- a basis that keeps a model has a status for each column and row of its form
   pub all_statuses : length basis ≡ f.cols + f.rows
   all_statuses = (subst (λ f. IsBasisOf f basis) same_form keeps.fits).all
 
+  -- a basis that keeps a model has a tableau in its form without a limit
   started : start_from None f basis ≡ Ok keeps.tableau
   started = ap (λ f. start_from None f basis) (sym same_form) ∙ keeps.started
 
+  -- the start from a basis that keeps a model is never singular
   pub never_singular : start_from limit f basis ≢ Err stops.Singular
   never_singular e =
       ⊎_elim
@@ -67,7 +71,7 @@ pub suits : (m : Model) (start : Start) → ((f : Form) × (basis : List Status)
 suits m start (f, basis, from) t e =
     suited (Some number_limit) m f basis t from.formed from.keeps (from.is_start ∙ ap (refused_as stops.Past) e)
 
--- a range that is computed from the start is the range that starting from the basis gives
+-- renaming the refusal of a start, and then that of the range from it, is renaming that of both in turn
 refused_on : (run : Tableau → Run (Range ℚ)) (start : Start) →
     (refused_as stops.Past start >>= λ t. refused_as stops.Past (run t)) ≡ refused_as stops.Past (start >>= run)
 refused_on run (Ok t) = refl
@@ -84,11 +88,14 @@ read_off run m f basis start result from is =
 
 module _ (m : Model) (start : Start) (at : ℕ) (result : Run (Range ℚ)) where
   module _ (is : result ≡ (start >>= λ t. cost_run (Some number_limit) m t at)) where
+    -- where a result is the range of a cost by the start from a basis, the stated range of this cost from the basis is
+    -- the result
     pub cost_value : (f : Form) (basis : List Status) → IsFrom m f basis start →
         cost_range (Some number_limit) m f basis at ≡ refused_as stops.Past result
     unfolding cost_range
     cost_value f basis from = read_off (λ t. cost_run (Some number_limit) m t at) m f basis start result from is
 
+    -- the range of a cost that a start from an optimal basis gives is the whole range in which the basis stays optimal
     pub cost_spans : at < width m →
         IfOk result (λ r. (f : Form) (basis : List Status) → IsFrom m f basis start → (v : ℚ) → IsOptimal m v →
         IsRange (with_cost m at) basis (cost m at) v r)
@@ -103,11 +110,15 @@ module _ (m : Model) (start : Start) (at : ℕ) (result : Run (Range ℚ)) where
         by (Err p) e = tt
 
   module _ (is : result ≡ (start >>= λ t. side_run (Some number_limit) m t at)) where
+    -- where a result is the range of a right side by the start from a basis, the stated range of this right side from
+    -- the basis is the result
     pub side_value : (f : Form) (basis : List Status) → IsFrom m f basis start →
         side_range (Some number_limit) m f basis at ≡ refused_as stops.Past result
     unfolding side_range
     side_value f basis from = read_off (λ t. side_run (Some number_limit) m t at) m f basis start result from is
 
+    -- the range of a right side that a start from an optimal basis gives is the whole range in which the basis stays
+    -- optimal
     pub side_spans : at < height m →
         IfOk result (λ r. (f : Form) (basis : List Status) → IsFrom m f basis start → (v : ℚ) → IsOptimal m v →
         IsRange (with_rhs m at) basis (row m at).rhs v r)

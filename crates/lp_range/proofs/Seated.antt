@@ -12,11 +12,13 @@ use Rattle.spec_range.proofs.Checked.{parts, tableau}
 use Rattle.spec_range.proofs.CostRange.{kept}
 use Rattle.lp_range.specs.Answer.{IsSeated}
 
+-- the tableau has as many columns and rows as the model, and each basic column a position
 pub record Suited (m : Model) (t : Tableau) : Type 0 where
   pub seated : IsSeated t
   pub cols : t.cols ≡ width m
   pub rows : t.rows ≡ height m
 
+-- the start from a basis that keeps a model has as many columns and rows as the model, and each basic column a position
 pub suited : (limit : Option ℕ) (m : Model) (f : Form) (basis : List Status) (t : Tableau) →
     form_of limit m ≡ Ok f → Keeps m basis → start_from limit f basis ≡ Ok t → Suited m t
 suited limit m f basis t formed keeps ok =

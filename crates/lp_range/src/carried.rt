@@ -12,7 +12,8 @@ use lp_frac::{Frac, Past, add, div, is_positive, sub};
 use lp_simplex::dual::position_of;
 use lp_tableau::{Tableau, is_zero};
 
-// The right side with which a bound that moves with it comes to `value`, if there is such a bound.
+// `rhs + value - bound`: the right side with which this bound, which moves with it, comes to `value`. None where there
+// is no bound. Refused where a number is past 127 bits.
 fn shifted(rhs: Frac, value: Frac, bound: Option<Frac>) -> Result<Option<Frac>, Past>
     ensures { result ≡ rule.shifted_run (Some number_limit) rhs value bound }
 {
@@ -24,7 +25,8 @@ fn shifted(rhs: Frac, value: Frac, bound: Option<Frac>) -> Result<Option<Frac>, 
     Ok(Some(x))
 }
 
-// The ends for the right side of a row whose logical is basic, at `value`.
+// The ends for the right side of a row whose logical is basic at `value`: the logical's lower bound gives the upper
+// end, and its upper bound the lower end. Refused where a number is past 127 bits.
 fn still(rhs: Frac, value: Frac, lower: Option<Frac>, upper: Option<Frac>) -> Result<Ends, Past>
     ensures { result ≡ rule.still_ends (Some number_limit) rhs value lower upper }
 {
@@ -33,7 +35,9 @@ fn still(rhs: Frac, value: Frac, lower: Option<Frac>, upper: Option<Frac>) -> Re
     Ok(Ends { low, high })
 }
 
-// The ends with the right side at which a basic value comes to a bound, if it has that bound.
+// The ends, with the right side too at which a basic value comes to this bound: as an upper end if `upper`, else as a
+// lower one. Without the bound the ends stay. `entry` is that of the moving logical in the basic column's row. Refused
+// where a number is past 127 bits.
 fn bounded(
     rhs: Frac,
     value: Frac,
@@ -54,7 +58,9 @@ fn bounded(
     at_side(upper, x, ends)
 }
 
-// The ends with the right sides at which a basic value comes to either bound.
+// The ends, with the right sides too at which a basic value comes to either bound. Where `entry`, that of the moving
+// logical in its row, is above 0 the lower bound gives an upper end and the upper one a lower end; where it is below 0,
+// the other way. Refused where a number is past 127 bits.
 fn carried(
     rhs: Frac,
     value: Frac,
@@ -71,7 +77,8 @@ fn carried(
     bounded(rhs, value, entry, upper, !falls, ends)
 }
 
-// The ends, with those that column `k` gives if it is basic and moves with the nonbasic logical column `s`.
+// The ends for a right side, with those that column `k` gives if it is basic and moves with the nonbasic logical column
+// `s`. Refused where a number is past 127 bits.
 fn carried_if(tab: &Tableau, rhs: Frac, s: u32, k: u32, ends: Ends) -> Result<Ends, Past>
     requires logical { s < all_columns tab.now }
     requires column { k < all_columns tab.now }
@@ -88,7 +95,8 @@ fn carried_if(tab: &Tableau, rhs: Frac, s: u32, k: u32, ends: Ends) -> Result<En
     carried(rhs, tab.value(k), entry, tab.lower(k), tab.upper(k), ends)
 }
 
-// The ends for the right side of a row whose logical is nonbasic and has a bound.
+// The ends for the right side of a row whose logical `s` is nonbasic and has a bound: the tightest that the bounds of
+// the basic columns give. Refused where a number is past 127 bits.
 fn nonbasic(tab: &Tableau, rhs: Frac, s: u32) -> Result<Ends, Past>
     requires logical { s < all_columns tab.now }
     requires seated { IsSeated tab.now }
@@ -101,7 +109,8 @@ fn nonbasic(tab: &Tableau, rhs: Frac, s: u32) -> Result<Ends, Past>
     Ok(ends)
 }
 
-// The ends for the right side of the row whose logical is column `s`.
+// The ends for the right side of the row whose logical is column `s`, between which each basic value stays within its
+// bounds. A row without limits has none. Refused where a number is past 127 bits.
 pub(crate) fn side_ends(tab: &Tableau, rhs: Frac, s: u32) -> Result<Ends, Past>
     requires logical { s < all_columns tab.now }
     requires seated { IsSeated tab.now }

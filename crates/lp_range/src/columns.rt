@@ -4,7 +4,7 @@ ghost use Rattle.spec_simplex.specs.Tableau.{all_columns};
 
 use lp_tableau::Tableau;
 
-// The logical column of a row.
+// The number of the logical column of a row, by the row's number.
 pub(crate) fn logical(tab: &Tableau, row: u32) -> u32
     requires { row < tab.now.rows }
     ensures value { result ≡ tab.now.cols + row }

@@ -22,7 +22,8 @@ pub(crate) fn no_ends() -> Ends
     }
 }
 
-// The greater of two numbers, of which the second may be missing.
+// The greater of two numbers; the first one where the second is missing. Refused where they can't be compared in 127
+// bits.
 fn greater(new: Frac, kept: Option<Frac>) -> Result<Frac, Past>
     ensures { result ≡ rule.greater_run (Some number_limit) new kept }
 {
@@ -35,7 +36,8 @@ fn greater(new: Frac, kept: Option<Frac>) -> Result<Frac, Past>
     }
 }
 
-// The lesser of two numbers, of which the second may be missing.
+// The lesser of two numbers; the first one where the second is missing. Refused where they can't be compared in 127
+// bits.
 fn lesser(new: Frac, kept: Option<Frac>) -> Result<Frac, Past>
     ensures { result ≡ rule.lesser_run (Some number_limit) new kept }
 {
@@ -48,7 +50,7 @@ fn lesser(new: Frac, kept: Option<Frac>) -> Result<Frac, Past>
     }
 }
 
-// The ends with `v` as a lower end too, of which the greater is kept.
+// The ends with `v` as a lower end too, of which the greater is kept. The comparison may be refused.
 pub(crate) fn at_least(v: Frac, ends: Ends) -> Result<Ends, Past>
     ensures { result ≡ rule.at_least (Some number_limit) v ends }
 {
@@ -59,7 +61,7 @@ pub(crate) fn at_least(v: Frac, ends: Ends) -> Result<Ends, Past>
     })
 }
 
-// The ends with `v` as an upper end too, of which the lesser is kept.
+// The ends with `v` as an upper end too, of which the lesser is kept. The comparison may be refused.
 pub(crate) fn at_most(v: Frac, ends: Ends) -> Result<Ends, Past>
     ensures { result ≡ rule.at_most (Some number_limit) v ends }
 {
@@ -70,7 +72,8 @@ pub(crate) fn at_most(v: Frac, ends: Ends) -> Result<Ends, Past>
     })
 }
 
-// The ends with `v` as an upper end too, or as a lower one.
+// The ends with `v` as an upper end too if `upper`, else as a lower one; the tightest is kept. The comparison may be
+// refused.
 pub(crate) fn at_side(upper: bool, v: Frac, ends: Ends) -> Result<Ends, Past>
     ensures { result ≡ rule.at_side (Some number_limit) upper v ends }
 {

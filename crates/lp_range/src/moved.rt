@@ -13,7 +13,9 @@ use lp_model::Sense;
 use lp_simplex::dual::position_of;
 use lp_tableau::{Pivot, Tableau, is_fixed, is_zero};
 
-// The ends, with the end `v`, at which the reduced cost of a column of this status is 0.
+// The ends, with the cost `v` too, at which the reduced cost of a column of this status is 0. Where that `falls` as the
+// cost grows, `v` is an upper end for a column at its lower bound and a lower end for one at its upper bound, else the
+// other way. A column at 0 gives both ends, a basic one none. A comparison may be refused.
 fn ends_by(status: Status, falls: bool, v: Frac, ends: Ends) -> Result<Ends, Past>
     ensures { result ≡ rule.ends_by (Some number_limit) status falls v ends }
 {
@@ -28,14 +30,16 @@ fn ends_by(status: Status, falls: bool, v: Frac, ends: Ends) -> Result<Ends, Pas
     }
 }
 
-// Whether the reduced cost of a column with this entry in the moving column's row falls as the cost grows.
+// Whether the reduced cost of a column with this entry in the row of the basic column whose cost moves falls as that
+// cost grows: the entry is above 0 for `min`, below 0 for `max`.
 fn falls(sense: Sense, entry: Frac) -> bool
     ensures { result ≡ rule.falls_by sense entry }
 {
     is_positive(least_cost(sense, entry))
 }
 
-// The cost with which the reduced cost of a nonbasic column is 0, and the present one where it has no bound.
+// The cost with which a column at a bound has the reduced cost 0: the present cost less the reduced cost for `min`,
+// plus it for `max`; refused past 127 bits. The present cost for a column at 0 or basic.
 fn own_number(sense: Sense, cost: Frac, status: Status, reduced: Frac) -> Result<Frac, Past>
     ensures { result ≡ rule.own_number (Some number_limit) sense cost status reduced }
 {
@@ -45,7 +49,8 @@ fn own_number(sense: Sense, cost: Frac, status: Status, reduced: Frac) -> Result
     }
 }
 
-// The ends for the cost of a nonbasic column.
+// The ends for the cost of a nonbasic column: where its own reduced cost changes its sign. A fixed column has none.
+// Refused where a number is past 127 bits.
 fn own(tab: &Tableau, sense: Sense, cost: Frac, col: u32) -> Result<Ends, Past>
     requires { col < all_columns tab.now }
     ensures { result ≡ rule.own_ends (Some number_limit) sense cost tab.now col }
@@ -58,7 +63,8 @@ fn own(tab: &Tableau, sense: Sense, cost: Frac, col: u32) -> Result<Ends, Past>
     ends_by(status, falls(sense, neg(one())), v, no_ends())
 }
 
-// Whether a column limits the range of the cost of the basic column at the position.
+// Whether column `at.column` limits the range of the cost of the basic column at `at.position`: it is nonbasic, not
+// fixed, and its entry there is not 0.
 fn is_moved(tab: &Tableau, at: Pivot) -> bool
     requires place { at.position < tab.now.rows }
     requires column { at.column < all_columns tab.now }
@@ -69,7 +75,8 @@ fn is_moved(tab: &Tableau, at: Pivot) -> bool
         || (is_fixed(tab.lower(k), tab.upper(k)) || is_zero(tab.entry(at.position, k))))
 }
 
-// The ends with those at which the reduced cost of a column is 0, as the cost of the column at the position moves.
+// The ends, with the cost too at which the reduced cost of column `at.column` is 0, as the cost of the basic column at
+// `at.position` moves. Refused where a number is past 127 bits.
 fn moved(tab: &Tableau, sense: Sense, cost: Frac, at: Pivot, ends: Ends) -> Result<Ends, Past>
     requires place { at.position < tab.now.rows }
     requires column { at.column < all_columns tab.now }
@@ -83,7 +90,8 @@ fn moved(tab: &Tableau, sense: Sense, cost: Frac, at: Pivot, ends: Ends) -> Resu
     ends_by(tab.status(k), falls(sense, entry), v, ends)
 }
 
-// The ends, with the end that a column gives, if it limits the range.
+// The ends for the cost of the basic column at `at.position`, with the one that column `at.column` gives if it limits
+// the range. Refused where a number is past 127 bits.
 fn moved_if(tab: &Tableau, sense: Sense, cost: Frac, at: Pivot, ends: Ends) -> Result<Ends, Past>
     requires place { at.position < tab.now.rows }
     requires column { at.column < all_columns tab.now }
@@ -96,7 +104,8 @@ fn moved_if(tab: &Tableau, sense: Sense, cost: Frac, at: Pivot, ends: Ends) -> R
     }
 }
 
-// The ends for the cost of the basic column at position `p`.
+// The ends for the cost of the basic column at position `p`, the tightest that the reduced costs of all columns give.
+// Refused where a number is past 127 bits.
 fn basic(tab: &Tableau, sense: Sense, cost: Frac, p: u32) -> Result<Ends, Past>
     requires { p < tab.now.rows }
     ensures { result ≡ rule.basic_ends (Some number_limit) sense cost tab.now p }
@@ -112,7 +121,8 @@ fn basic(tab: &Tableau, sense: Sense, cost: Frac, p: u32) -> Result<Ends, Past>
     Ok(ends)
 }
 
-// The ends for the cost of column `col`.
+// The ends for the cost of column `col`, between which each reduced cost of a column that is not fixed keeps the sign
+// of its column's status. Refused where a number is past 127 bits.
 pub(crate) fn cost_ends(tab: &Tableau, sense: Sense, cost: Frac, col: u32) -> Result<Ends, Past>
     requires column { col < all_columns tab.now }
     requires seated { IsSeated tab.now }

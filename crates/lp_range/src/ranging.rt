@@ -38,7 +38,8 @@ impl std::marker::Model for Ranging {
     ghost view = { λ ranging. ranging.start };
 }
 
-// The range of the cost of column `col`, read off the tableau of the basis.
+// The range of the cost of column `col`, read off the tableau of the basis. Its slope is the column's value. Refused
+// where a number is past 127 bits.
 #[tactic(auto, unfolding(spec_range::specs::Rule::cost_run))]
 fn cost_at(tab: &Tableau, model: &Model, col: u32) -> Result<Range, Past>
     requires column { col < width model.now }
@@ -53,7 +54,8 @@ fn cost_at(tab: &Tableau, model: &Model, col: u32) -> Result<Range, Past>
     })
 }
 
-// The range of the right side of a row, read off the tableau of the basis.
+// The range of the right side of row `row`, read off the tableau of the basis. Its slope is the reduced cost of the
+// row's logical, negated for `max`. Refused where a number is past 127 bits.
 #[tactic(auto, unfolding(spec_range::specs::Rule::side_run))]
 fn side_at(tab: &Tableau, model: &Model, row: u32) -> Result<Range, Past>
     requires row { row < height model.now }
@@ -70,7 +72,8 @@ fn side_at(tab: &Tableau, model: &Model, row: u32) -> Result<Range, Past>
 }
 
 impl Ranging {
-    /// Starts from a basis that keeps the model of the form optimal.
+    /// Starts from a basis that keeps the model of the form optimal: makes its tableau, or notes the operation that was
+    /// refused in that. Memory may run out.
     pub fn new(alloc: Global, form: &Form, basis: &Basis) -> Result<Ranging, AllocError>
         requires { IsKept form.now basis.now }
         ensures { IfOk result (IsStart form.now basis.now) }
@@ -85,7 +88,7 @@ impl Ranging {
 
     /// The range of the cost of column `col` of a model that the basis keeps: exactly the costs with which it keeps the
     /// model. With each of them the optimal value is the present one, and the slope times what the cost is above the
-    /// present one. Refused where an operation of the elimination or of the candidates is.
+    /// present one. Refused where an operation in making the tableau or in finding the ends is past 127 bits.
     pub fn cost(&self, model: &Model, col: u32) -> Result<Range, Past>
         requires column { col < width model.now }
         requires from { (f : exact_form) × (basis : List exact_status) × IsFrom model.now f basis self.now }
@@ -100,7 +103,9 @@ impl Ranging {
         }
     }
 
-    /// The range of the right side of row `at`, in the same way.
+    /// The range of the right side of row `at` of a model that the basis keeps: exactly the right sides with which it
+    /// keeps the model. The slope is what the optimal value grows by for each unit. Refused where an operation in
+    /// making the tableau or in finding the ends is past 127 bits.
     pub fn side(&self, model: &Model, at: u32) -> Result<Range, Past>
         requires row { at < height model.now }
         requires from { (f : exact_form) × (basis : List exact_status) × IsFrom model.now f basis self.now }
