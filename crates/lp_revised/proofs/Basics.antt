@@ -50,6 +50,7 @@ module _ (limit : Option ℕ) (f : Form) (basis : List Status) where
       (λ i l. subst Inside (sym (get_or-replicate f.rows i None None (omega (arith, l, long))))
       (omega (arith, l, long)))
 
+  -- where factors are found for a basis of a form, each of their basic columns is one of the form's columns or rows
   pub basics_inside : (s : Factors) → factor_run limit f basis ≡ Ok s → All (λ k. k < f.cols + f.rows) s.basic
   unfolding factor_run choose_all
   basics_inside s h =

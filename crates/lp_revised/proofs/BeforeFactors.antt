@@ -13,6 +13,8 @@ use Rattle.lp_tableau.proofs.TableauParts.{begun_shape}
 use Rattle.lp_revised.specs.State.{IsState, state_of}
 
 module _ (f : Form) (starts : List (RowStart ℚ)) where
+  -- where sizes, basic columns, values, statuses and bounds are those that the rows' starts give, their state is the
+  -- bare one with which the form begins
   pub begun_is : (rows cols : ℕ) (basic : List ℕ) (value : List ℚ) (status : List Status)
       (lower upper : List (Option ℚ)) →
       rows ≡ f.rows → cols ≡ f.cols → basic ≡ made f.rows (start_basic f starts) →
@@ -22,6 +24,7 @@ module _ (f : Form) (starts : List (RowStart ℚ)) where
       (state_of rows cols basic value status lower upper [] 0).bare ≡ bare_of (begun f starts)
   begun_is rows cols basic value status lower upper a b c d e g h = cc
 
+  -- the bare state with which a form begins, with any pairs, is a state over as many places as the form has rows
   pub begun_state : (t : Tableau) (pairs : List Pair) (places : ℕ) → IsForm f → length starts ≡ f.rows →
       t ≡ bare_of (begun f starts) → places ≡ f.rows →
       IsState places (record { bare = t; pairs = pairs; replaced = 0 })

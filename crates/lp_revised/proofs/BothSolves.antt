@@ -23,11 +23,13 @@ ftran-append m (e ∷ es) fs v w h = by (forward_run (Some number_limit) m e v) 
     by (Ok u) h more = more u h
     by (Err p) h more = cc
 
+-- ftran of v by the first k pairs gives w, which has m items, each of at most 127 bits
 pub record ForwardDone (m : ℕ) (pairs : List Pair) (v : List ℚ) (k : ℕ) (w : List ℚ) : Type 0 where
   pub done : ftran_run (Some number_limit) (m) (take k pairs) v ≡ Ok w
   pub all : length w ≡ m
   pub narrow : All IsNarrow w
 
+-- btran of v by the last k pairs gives w, which has m items, each of at most 127 bits
 pub record BackwardDone (m : ℕ) (pairs : List Pair) (v : List ℚ) (k : ℕ) (w : List ℚ) : Type 0 where
   pub done : btran_run (Some number_limit) (m) (drop (length pairs - k) pairs) v ≡ Ok w
   pub all : length w ≡ m
@@ -35,6 +37,8 @@ pub record BackwardDone (m : ℕ) (pairs : List Pair) (v : List ℚ) (k : ℕ) (
 
 module _ (m : ℕ) (pairs : List Pair) (ok : All (λ (e : Pair). length e.column ≡ m) pairs)
     (v : List ℚ) (same : length v ≡ m) where
+  -- where ftran by the first k pairs gives w, and by pair k then u, of numbers of at most 127 bits, ftran by the first
+  -- k + 1 pairs gives u
   pub ftran_next : (k : ℕ) (e : Pair) (w u : List ℚ) → e ≡ get_or pairs k e → k < length pairs →
       ForwardDone m pairs v k w → forward_run (Some number_limit) (length w) e w ≡ Ok u → length u ≡ length w →
       All IsNarrow u → ForwardDone m pairs v (k + 1) u
@@ -48,6 +52,7 @@ module _ (m : ℕ) (pairs : List Pair) (ok : All (λ (e : Pair). length e.column
     narrow = n;
   }
 
+  -- where ftran by the first k pairs gives w, and pair k is refused an operation on w, ftran by all pairs is refused it
   pub ftran_stops : (k : ℕ) (e : Pair) (w : List ℚ) (p : Past ℚ) → e ≡ get_or pairs k e → k < length pairs →
       ForwardDone m pairs v k w → forward_run (Some number_limit) (length w) e w ≡ Err p →
       ftran_run (Some number_limit) m pairs v ≡ Err p
@@ -64,6 +69,7 @@ module _ (m : ℕ) (pairs : List Pair) (ok : All (λ (e : Pair). length e.column
           ∙ ap (λ xs. take k pairs ++ xs) (drop_more pairs k e l ∙ ap (λ x. x ∷ drop (k + 1) pairs) (sym is))
 
   -- ---- btran
+  -- the last k + 1 pairs are the pair before the last k, and then these
   behind : (k : ℕ) (e : Pair) → k < length pairs → e ≡ get_or pairs (length pairs - 1 - k) e →
       drop (length pairs - (k + 1)) pairs ≡ e ∷ drop (length pairs - k) pairs
   behind k e l is =
@@ -77,6 +83,8 @@ module _ (m : ℕ) (pairs : List Pair) (ok : All (λ (e : Pair). length e.column
   btran_stays [] fs p h = h
   btran_stays (e ∷ es) fs p h = ap (λ o. o >>= λ x. backward_run (Some number_limit) m e x) (btran_stays es fs p h)
 
+  -- where btran by the last k pairs gives w, and the pair before these is refused an operation on w, btran by all pairs
+  -- is refused it
   pub btran_stops : (k : ℕ) (e : Pair) (w : List ℚ) (p : Past ℚ) → e ≡ get_or pairs (length pairs - 1 - k) e →
       k < length pairs → BackwardDone m pairs v k w → backward_run (Some number_limit) (length w) e w ≡ Err p →
       btran_run (Some number_limit) m pairs v ≡ Err p

@@ -14,9 +14,12 @@ use Rattle.spec_exact.specs.Narrow.{number_limit}
 use Rattle.spec_factor.specs.Revised.{way_run, or_priced, entering_run}
 
 module _ (f : Form) (costs y : List ℚ) (t : Tableau) where
+  -- the search for an entering column at column k: what was found before stays; else column k is priced
   abbrev pub priced_at : ℕ → Option Entering → Run (Option Entering)
   priced_at k e = or_priced (Some number_limit) f costs y t k e
 
+  -- where no column below k enters, and pricing column k is refused an operation, the search for an entering column is
+  -- refused it
   pub way_refused : (k : ℕ) (p : Past ℚ) → steps k priced_at None ≡ Ok None → k < all_columns t →
       way_run (Some number_limit) f costs y t k ≡ Err p → entering_run (Some number_limit) f costs y t ≡ Err p
   unfolding entering_run
@@ -29,6 +32,7 @@ module _ (f : Form) (costs y : List ℚ) (t : Tableau) where
       ap (λ i. steps i priced_at None) (let z : n + suc d ≡ suc (n + d) = omega arith in z)
       ∙ ap (λ o. o >>= λ e. priced_at (n + d) e) (stays n d e h)
 
+  -- where no column below k enters, and column k may enter in a direction, column k enters in that direction
   pub enters : (k : ℕ) (w : Way) → steps k priced_at None ≡ Ok None → k < all_columns t →
       way_run (Some number_limit) f costs y t k ≡ Ok (Some w) →
       entering_run (Some number_limit) f costs y t ≡ Ok (Some (record { col = k; direction = w }))
@@ -40,6 +44,7 @@ module _ (f : Form) (costs y : List ℚ) (t : Tableau) where
       (steps_more k priced_at None None (Some (record { col = k; direction = w })) h
       (ap (λ o. o >>= λ way. Ok (or_enters None k way)) g)))
 
+  -- where no column below k enters, and k is the number of all columns, no column enters
   pub none_enters : (k : ℕ) → steps k priced_at None ≡ Ok None → k ≡ all_columns t →
       entering_run (Some number_limit) f costs y t ≡ Ok None
   unfolding entering_run

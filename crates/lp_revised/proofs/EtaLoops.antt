@@ -19,9 +19,11 @@ use Rattle.lp_revised.proofs.EtaRuns.{backward_other, backward_own, backward_sto
 
 module _ {m place : ℕ} {pivot : ℚ} {es : Entries} {now : Pair} (view : pair_of m place es ≡ now)
     (h : IsEta m place pivot es) (v : List ℚ) (same : length now.column ≡ length v) where
+  -- the list has as many items as there are places
   pub long : length v ≡ m
   long = sym same ∙ ap (λ (e : Pair). length e.column) (sym view) ∙ length-made m (λ i. entry_of es i)
 
+  -- the pair's place is a place of the list
   pub place_in : place < length v
   place_in = subst (λ n. place < n) (sym long) h.inside
 
@@ -51,9 +53,11 @@ module _ {m place : ℕ} {pivot : ℚ} {es : Entries} {now : Pair} (view : pair_
     value_is : value_at es c ≡ item.1
     value_is = sym (ap (λ (e : ℕ × ℚ). e.1) item_is)
 
+    -- the place of entry c is a place of each list of that length
     pub item_in : (w : List ℚ) → length w ≡ m → item.0 < length w
     item_in w e = subst (λ n. item.0 < n) (sym e) (subst (λ r. r < m) row_is (row_inside m es h.entries c c_here))
 
+    -- the value of entry c has at most 127 bits
     pub value_narrow : IsNarrow item.1
     value_narrow =
         subst IsNarrow value_is (All-get_or (λ (e : ℕ × ℚ). IsNarrow e.1) es c (0, 0ℚ) c_here h.narrow)
@@ -71,6 +75,8 @@ module _ {m place : ℕ} {pivot : ℚ} {es : Entries} {now : Pair} (view : pair_
           (ap (λ i. get_or w i 0ℚ) row_is ∙ get_or_from_slice_get w item.0 x 0ℚ e)
           ∙ k
 
+      -- where ftran's loop came to entry c, which is not at the pair's place, and is refused its operation, ftran over
+      -- the pair is refused it
       pub forward_stop : (x : ℚ) (p : Past ℚ) → item.0 ≢ place → slice_get w item.0 ≡ Some x →
           less_product (Some number_limit) item.1 q x ≡ Err p → forward_run (Some number_limit) (length v) now v ≡ Err p
       forward_stop x p n e k =
@@ -78,6 +84,8 @@ module _ {m place : ℕ} {pivot : ℚ} {es : Entries} {now : Pair} (view : pair_
           ∙ forward_stops m place pivot es h v q long narrow narrow_q c w p c_here
           (λ z. n (sym row_is ∙ z)) d.done (run_is x (Err p) e k))
 
+      -- where ftran's loop came to entry c, which is not at the pair's place, setting the item there to itself less the
+      -- entry times q brings the loop to entry c + 1
       pub forward_next : (x r : ℚ) (u : List ℚ) → item.0 ≢ place → slice_get w item.0 ≡ Some x →
           less_product (Some number_limit) item.1 q x ≡ Ok r → IsNarrow r → u ≡ set w item.0 r →
           ForwardTo m place es v q (c + 1) u
@@ -89,6 +97,8 @@ module _ {m place : ℕ} {pivot : ℚ} {es : Entries} {now : Pair} (view : pair_
             narrow = All-set IsNarrow w (row_at es c) r narrow_r d.narrow;
           })
 
+      -- where ftran's loop came to entry c, which is at the pair's place, the list as it is brings the loop to entry c
+      -- + 1
       pub forward_same : (u : List ℚ) → item.0 ≡ place → u ≡ w → ForwardTo m place es v q (c + 1) u
       forward_same u e z =
           subst (ForwardTo m place es v q (c + 1)) (sym z) (record {
@@ -105,6 +115,8 @@ module _ {m place : ℕ} {pivot : ℚ} {es : Entries} {now : Pair} (view : pair_
           (ap (λ i. get_or v i 0ℚ) row_is ∙ get_or_from_slice_get v item.0 x 0ℚ e) value_is
           ∙ k
 
+      -- where btran's loop came to entry c, which is not at the pair's place, and is refused its operation, btran over
+      -- the pair is refused it
       pub backward_stop : (x : ℚ) (p : Past ℚ) → item.0 ≢ place → slice_get v item.0 ≡ Some x →
           less_product (Some number_limit) x item.1 s ≡ Err p →
           backward_run (Some number_limit) (length v) now v ≡ Err p
@@ -112,6 +124,8 @@ module _ {m place : ℕ} {pivot : ℚ} {es : Entries} {now : Pair} (view : pair_
           as_backward (Err p) (backward_stops m place pivot es h v long narrow c s p c_here
           (λ z. n (sym row_is ∙ z)) d.done (back_is x (Err p) e k))
 
+      -- where btran's loop came to entry c, which is not at the pair's place, taking the item there times the entry off
+      -- s brings the loop to entry c + 1
       pub backward_next : (x r u : ℚ) → item.0 ≢ place → slice_get v item.0 ≡ Some x →
           less_product (Some number_limit) x item.1 s ≡ Ok r → IsNarrow r → u ≡ r → BackwardTo m place es v (c + 1) u
       backward_next x r u n e k narrow_r z =
@@ -122,6 +136,7 @@ module _ {m place : ℕ} {pivot : ℚ} {es : Entries} {now : Pair} (view : pair_
             narrow = narrow_r;
           })
 
+      -- where btran's loop came to entry c, which is at the pair's place, s as it is brings the loop to entry c + 1
       pub backward_same : (u : ℚ) → item.0 ≡ place → u ≡ s → BackwardTo m place es v (c + 1) u
       backward_same u e z =
           subst (BackwardTo m place es v (c + 1)) (sym z) (record {
@@ -130,6 +145,7 @@ module _ {m place : ℕ} {pivot : ℚ} {es : Entries} {now : Pair} (view : pair_
           })
 
   -- ---- before and after the loops
+  -- before its first entry ftran's loop has the list with q, the item at the pair's place over the pivot, set there
   pub forward_starts : (narrow : All IsNarrow v) {q : ℚ} {w : List ℚ} → IsNarrow q → w ≡ set v place q →
       ForwardTo m place es v q 0 w
   forward_starts narrow {q} {w} narrow_q e =
@@ -138,6 +154,7 @@ module _ {m place : ℕ} {pivot : ℚ} {es : Entries} {now : Pair} (view : pair_
         narrow = All-set IsNarrow v place q narrow_q narrow;
       })
 
+  -- where the item at the pair's place over the pivot is 0, ftran over the pair gives the list with 0 set there
   pub forward_zero : (narrow : All IsNarrow v) {q x : ℚ} {w : List ℚ} → IsNarrow q → slice_get v place ≡ Some x →
       quotient_run (Some number_limit) x pivot ≡ Ok q → q ≡ 0ℚ → w ≡ set v place q →
       forward_run (Some number_limit) (length v) now v ≡ Ok w
@@ -146,6 +163,7 @@ module _ {m place : ℕ} {pivot : ℚ} {es : Entries} {now : Pair} (view : pair_
       (ap (λ a. quotient_run (Some number_limit) a pivot) (own x e) ∙ k)
       ∙ forward_nothing m place pivot es h v q long narrow narrow_q z ∙ ap Ok (sym is))
 
+  -- where the division by the pivot is refused, ftran over the pair is refused it
   pub forward_not : {x : ℚ} {p : Past ℚ} → slice_get v place ≡ Some x →
       quotient_run (Some number_limit) x pivot ≡ Err p →
       forward_run (Some number_limit) (length v) now v ≡ Err p
@@ -153,6 +171,7 @@ module _ {m place : ℕ} {pivot : ℚ} {es : Entries} {now : Pair} (view : pair_
       as_forward (Err p)
       (forward_refused m place pivot es h v p (ap (λ a. quotient_run (Some number_limit) a pivot) (own x e) ∙ k))
 
+  -- where ftran's loop has passed all entries with the list w, ftran over the pair gives w
   pub forward_whole : (narrow : All IsNarrow v) {q x : ℚ} (c : ℕ) {w : List ℚ} → IsNarrow q →
       slice_get v place ≡ Some x → quotient_run (Some number_limit) x pivot ≡ Ok q → length es ≤ c →
       ForwardTo m place es v q c w
@@ -162,21 +181,27 @@ module _ {m place : ℕ} {pivot : ℚ} {es : Entries} {now : Pair} (view : pair_
       (ap (λ a. quotient_run (Some number_limit) a pivot) (own x e) ∙ k)
       ∙ forward_ends m place pivot es h v q long narrow narrow_q c w l d.done)
 
+  -- the list that ftran's loop has is as long as the one at the start
   pub forward_long : {q : ℚ} {c : ℕ} {w : List ℚ} → ForwardTo m place es v q c w → length w ≡ length v
   forward_long {q} d = d.done.all ∙ length-set v place q
 
+  -- before its first entry btran's loop has the item at the pair's place
   pub backward_starts : (narrow : All IsNarrow v) {x : ℚ} → slice_get v place ≡ Some x → IsNarrow x →
       BackwardTo m place es v 0 x
   backward_starts narrow {x} e n =
       let z : get_or v place 0ℚ ≡ x = own x e in
       record { done = backward_first m place pivot es h v long narrow (subst IsNarrow (sym z) n) ∙ ap Ok z; narrow = n }
 
+  -- where btran's loop has passed all entries with s, and the division of s by the pivot is refused, btran over the
+  -- pair is refused it
   pub backward_not : (narrow : All IsNarrow v) (c : ℕ) {s : ℚ} {p : Past ℚ} → length es ≤ c →
       BackwardTo m place es v c s → quotient_run (Some number_limit) s pivot ≡ Err p →
       backward_run (Some number_limit) (length v) now v ≡ Err p
   backward_not narrow c {s} {p} l d k =
       as_backward (Err p) (backward_refused m place pivot es h v long narrow c s p l d.done k)
 
+  -- where btran's loop has passed all entries with s, btran over the pair gives the list with s over the pivot set at
+  -- the pair's place
   pub backward_whole : (narrow : All IsNarrow v) (c : ℕ) {s q : ℚ} {w : List ℚ} → length es ≤ c →
       BackwardTo m place es v c s → quotient_run (Some number_limit) s pivot ≡ Ok q → w ≡ set v place q →
       backward_run (Some number_limit) (length v) now v ≡ Ok w

@@ -46,7 +46,8 @@ module _ (starts : List (RowStart ℚ)) (s : Revised) (z : List ℚ) (p j : ℕ)
       shifted_run (Some number_limit) values j theta >>= λ shifted. (solve >>= λ v. Ok (new_factors v)) >>= λ factors.
       with_factors shifted factors
 
-  -- the exchange of the definition, where z is the column's solution
+  -- where ftran of column j by the state's pairs gives z, the definition's exchange of column j into place p is the one
+  -- by z, `exchanged_by`
   pub exchange_is : (f : Form) → ftran_run (Some number_limit) s.bare.rows s.pairs (column_of f j) ≡ Ok z →
       exchange_run (Some number_limit) f s (seen starts s.bare j z) p j theta to ≡ whole
   unfolding exchange_run replace_run

@@ -39,6 +39,7 @@ use Rattle.spec_exact.proofs.RunsInOrder.{list_more, steps_more}
 use Rattle.spec_exact.proofs.Narrow.{zero_narrow}
 use Rattle.spec_simplex.proofs.ListIndices.{by_lt}
 
+-- places with their values, as the items of a list that are not 0
 abbrev pub Entries : Type 0
 Entries = List (ℕ × ℚ)
 
@@ -46,6 +47,7 @@ Entries = List (ℕ × ℚ)
 abbrev pub row_at : Entries → ℕ → ℕ
 row_at es c = (get_or es c (0, 0ℚ)).0
 
+-- the value of entry c
 abbrev pub value_at : Entries → ℕ → ℚ
 value_at es c = (get_or es c (0, 0ℚ)).1
 
@@ -97,17 +99,21 @@ entry_narrow (e ∷ es) h i = by (nat_eq e.0 i) (entry_narrow es (All-tail (λ (
     by false k = k
 
 module _ (m : ℕ) (es : Entries) (h : AreEntries m es) where
+  -- the place of each entry is one of the m places
   pub row_inside : (c : ℕ) → c < length es → row_at es c < m
   row_inside c l = All-get_or (λ (e : ℕ × ℚ). e.0 < m) es c (0, 0ℚ) l h.inside
 
+  -- where entry c exists, `bound` of c is its place
   pub bound_at : (c : ℕ) → c < length es → bound m es c ≡ row_at es c
   unfolding bound
   bound_at c l = rw (lt-ltb c (length es) l) refl
 
+  -- past the last entry, `bound` is m, the number of places
   pub bound_end : (c : ℕ) → length es ≤ c → bound m es c ≡ m
   unfolding bound
   bound_end c l = rw (le-ltb c (length es) l) refl
 
+  -- the place of entry c, or the end past the last entry, is at most m
   pub bound_least : (c : ℕ) → bound m es c ≤ m
   bound_least c = by_lt c (length es)
       (λ l. subst (λ b. b ≤ m) (sym (bound_at c l)) (let z = row_inside c l in omega (arith, z)))
@@ -116,6 +122,7 @@ module _ (m : ℕ) (es : Entries) (h : AreEntries m es) where
   in_order : (c d : ℕ) → c < d → d < length es → row_at es c < row_at es d
   in_order c d l k = h.ascending c d (0, 0ℚ) l k
 
+  -- in entries of ascending places, the place of entry c is below that of the next entry, or below the end
   pub next_bound : (c : ℕ) → c < length es → row_at es c < bound m es (c + 1)
   next_bound c l = by_lt (c + 1) (length es)
       (λ k. subst (λ b. row_at es c < b) (sym (bound_at (c + 1) k)) (in_order c (c + 1) (omega arith) k))
@@ -131,7 +138,7 @@ module _ (m : ℕ) (es : Entries) (h : AreEntries m es) where
           found_entry es i (λ z. let y : true ≡ false = sym (eq_test (entry_of es i) 0ℚ z) ∙ e in cc) in
           absurd (n w.0 w.1 w.2)
 
-  -- before the first entry, and between two
+  -- at the places before that of the first entry the entries are 0
   pub none_first : (i : ℕ) → i < bound m es 0 → entry_of es i ≡ 0ℚ
   none_first i l = is_zero_or i (λ c k e. by_eq c 0
       (λ z. let y : i < row_at es 0 = subst (λ b. i < b) (bound_at 0 (subst (λ c. c < length es) z k)) l in
@@ -140,6 +147,7 @@ module _ (m : ℕ) (es : Entries) (h : AreEntries m es) where
       let x : row_at es 0 < row_at es c = in_order 0 c (omega (arith, z)) k in
       let w : ⊥ = omega (arith, y, x, e) in w))
 
+  -- at the places between those of entry c and of the next entry, or the end, the entries are 0
   pub none_between : (c i : ℕ) → c < length es → row_at es c < i → i < bound m es (c + 1) → entry_of es i ≡ 0ℚ
   none_between c i l after before =
       is_zero_or i (λ d k e. by_lt d (c + 1)
@@ -155,7 +163,7 @@ module _ (m : ℕ) (es : Entries) (h : AreEntries m es) where
 
 -- ---- lists whose items are replaced in order
 
--- the first b items are those of the run, and the others as they were
+-- the first b items of w are those that the run f gives, and the others are those of the list at the start
 pub record DoneTo (f : ℕ → Run ℚ) (b : ℕ) (start w : List ℚ) : Type 0 where
   pub all : length w ≡ length start
   pub done : list_run b f ≡ Ok (take b w)

@@ -21,6 +21,8 @@ module _ (starts : List (RowStart ℚ)) (s : Revised) (z : List ℚ) (theta : �
   abbrev step_by : ℕ → List ℚ → Run (List ℚ)
   step_by i values = cond (is_place but i) (Ok values) (moved_by starts s.bare z theta i values)
 
+  -- where the basic columns of the places below i were moved, and moving that of place i is refused an operation,
+  -- moving all of them is refused it
   pub move_refused : (u : Revised) (i : ℕ) (p : Past ℚ) → moves_by starts s.bare z theta but i ≡ Ok u.bare.value →
       WithValues s u → i < s.bare.rows → is_place but i ≡ false
       → moved_by starts u.bare z theta i u.bare.value ≡ Err p → moves_by starts s.bare z theta but s.bare.rows ≡ Err p
@@ -29,7 +31,8 @@ module _ (starts : List (RowStart ℚ)) (s : Revised) (z : List ℚ) (theta : �
       (ap (λ b. cond b (Ok u.bare.value) (moved_by starts s.bare z theta i u.bare.value)) b
       ∙ sym (ap (λ (w : Revised). moved_by starts w.bare z theta i u.bare.value) e) ∙ g)
 
-  -- the same as the step sees it
+  -- moving all basic columns place by place, by the solved column, moves them as `moved_run` does in the tableau that
+  -- the step sees
   pub moves_are : (j : ℕ) →
       moves_by starts s.bare z theta but s.bare.rows ≡ moved_run (Some number_limit) (seen starts s.bare j z) j theta
       but
@@ -48,6 +51,7 @@ module _ (starts : List (RowStart ℚ)) (s : Revised) (z : List ℚ) (j : ℕ) w
   abbrev range : Run ℚ
   range = difference_run (Some number_limit) (or_zero (upper_at s.bare j)) (or_zero (lower_at s.bare j))
 
+  -- where the distance between the column's bounds is refused, the flip over factors is refused it
   pub flip_refused : (p : Past ℚ) → range ≡ Err p → flip_over_run (Some number_limit) s sight j ≡ Err p
   unfolding flip_over_run
   flip_refused p h = ap (λ o. o >>= λ u. Ok (record s { bare = bare_of u })) (range_stops (Some number_limit) sight j p
@@ -55,6 +59,8 @@ module _ (starts : List (RowStart ℚ)) (s : Revised) (z : List ℚ) (j : ℕ) w
 
   module _ (r : ℚ) (h : range ≡ Ok r) (way : Way) (w : way ≡ flip_way (status_at s.bare j)) (theta : ℚ)
       (d : theta ≡ directed way r) where
+    -- where moving the basic columns by the distance between the column's bounds is refused, the flip over factors is
+    -- refused it
     pub flip_moves_refused : (p : Past ℚ) → moves_by starts s.bare z theta None s.bare.rows ≡ Err p →
         flip_over_run (Some number_limit) s sight j ≡ Err p
     unfolding flip_over_run
@@ -62,6 +68,8 @@ module _ (starts : List (RowStart ℚ)) (s : Revised) (z : List ℚ) (j : ℕ) w
         ap (λ o. o >>= λ u. Ok (record s { bare = bare_of u }))
         (flip_stops (Some number_limit) sight j r h way w theta p d (sym (moves_are starts s z theta None j) ∙ m))
 
+    -- where the basic columns were moved by the distance between the column's bounds, the flip over factors gives the
+    -- state with these values and the other bound as status
     pub flips : (to : Status) (u new : Revised) → to ≡ other_bound way → s.bare ≡ bare_of s.bare →
         moves_by starts s.bare z theta None s.bare.rows ≡ Ok u.bare.value → WithValues s u
         → new ≡ record u { bare = flipped u.bare j to u.bare.value } →

@@ -23,7 +23,7 @@ use Rattle.lp_revised.specs.Selecting.{CanDo, tableau_of, selection_of}
 use Rattle.lp_revised.specs.Runs.{EndsWith, made_run}
 use Rattle.lp_revised.proofs.Renewed.{stops_after}
 
--- a step that is no end
+-- the choice of a step is no end: a flip or a pivot
 abbrev pub GoesOn : Choice ℚ → Type 0
 GoesOn choice = (end : PrimalEnd) → choice ≡ End end → ⊥
 
@@ -45,6 +45,7 @@ module _ (f : Form) (starts : List (RowStart ℚ)) (costs : List ℚ) where
   abbrev from : ℕ → ℕ → Revised → Result RevisedEnded (RunStop ℚ)
   from left used s = over_from (Some number_limit) f starts costs left used s
 
+  -- where what a step sees stops for a reason, the run from there stops for it
   pub run_refused : (left used : ℕ) (s : Revised) (e : Stop Spent) →
       StopsRevised (refused_as cause.Past (seen_from s)) e → StopsRevised (from left used s) e
   unfolding over_from
@@ -64,6 +65,7 @@ module _ (f : Form) (starts : List (RowStart ℚ)) (costs : List ℚ) where
               choice;
         }
 
+    -- where the step that is seen chooses an end, the run ends at once in this state with that end
     pub run_ends : (left used : ℕ) (end : PrimalEnd) → selected.choice ≡ End end →
         from left used s ≡ Ok (record { end = end; state = s; selection = shown_by (End end); used = used })
     unfolding over_from
@@ -81,6 +83,7 @@ module _ (f : Form) (starts : List (RowStart ℚ)) (costs : List ℚ) where
     spent_at used x (Flip j) n = refl
     spent_at used x (Pivot p j theta to) n = refl
 
+    -- where the step that is seen is no end, and no step is left of the budget, the run stops as spent
     pub run_spent : (left used : ℕ) → GoesOn selected.choice → left ≡ 0 → from left used s ≡ Err cause.Spent
     unfolding over_from
     run_spent zero used n e =
@@ -103,7 +106,7 @@ module _ (f : Form) (starts : List (RowStart ℚ)) (costs : List ℚ) where
         x.choice) h
         ∙ next_at used (λ u. from left (used + 1) u) selected.choice selected.choice n
 
-    -- where `used` of the budget are spent, and it is more
+    -- where fewer than the budget are used, what is left of it is one more than once one more is used
     one_left : (budget used : ℕ) → used < budget → budget - used ≡ suc (budget - (used + 1))
     one_left budget used l = omega (arith, l)
 
@@ -113,6 +116,8 @@ module _ (f : Form) (starts : List (RowStart ℚ)) (costs : List ℚ) where
     one_step budget used n l =
         ap (λ left. from left used s) (one_left budget used l) ∙ goes_on (budget - (used + 1)) used n
 
+    -- where the step that is seen is no end, steps are left, and making the step stops for a reason, the run stops for
+    -- it
     pub step_stops : (budget used : ℕ) (e : Stop Spent) → GoesOn selected.choice → used < budget →
         StopsRevised (made_run f starts s selected.column selected.choice) e →
         StopsRevised (from (budget - used) used s) e
@@ -121,6 +126,8 @@ module _ (f : Form) (starts : List (RowStart ℚ)) (costs : List ℚ) where
         (stops_after (made_run f starts s selected.column selected.choice)
         (λ u. from (budget - (used + 1)) (used + 1) u) e g)
 
+    -- where the step that is seen is no end, steps are left, and making it gives u, the run goes on from u with one
+    -- step more used
     pub step_done : (budget used : ℕ) (u : Revised) → GoesOn selected.choice → used < budget →
         made_run f starts s selected.column selected.choice ≡ Ok u →
         from (budget - used) used s ≡ from (budget - (used + 1)) (used + 1) u

@@ -2,7 +2,7 @@
 --
 -- `open_next`: where no place below i is open and place i is not, no place below i + 1 is open.
 -- `open_here`: where no place below i is open and place i is, place i is the least of n that is open.
--- `opened`: the list is not 0 at a place that is open.
+-- `opened`: where a place is open for the list v, the item of v there is not 0.
 -- `free_is`: a place that no column has taken is open for the column of list `v` just where `v` is not 0 there.
 use Rattle.std.proofs.Common.{◌≡◌, ◌≢◌, ℕ, zero, suc, ◌+◌, ◌-◌, ◌<◌, List, length, get_or}
 use Rattle.std.proofs.Common.{slice_get, Option, Some, None, is_none, Result, Ok, Err, Bool, true}
@@ -27,6 +27,7 @@ use Rattle.spec_factor.specs.declared.stop.NoFactors.TheVariants as cause
 use Rattle.spec_factor.specs.Factors.{Chosen, is_open, or_open, open_place}
 use Rattle.spec_factor.specs.Factors.{choose_run, none_chosen, choose_all, factors_of, factor_run}
 
+-- the column of each place, none where a place has none
 abbrev pub Columns : Type 0
 Columns = List (Option ℕ)
 
@@ -69,6 +70,8 @@ free_is columns v i x c e g h =
     by false true e h = let z : true ≡ false = sym (eq_test x 0ℚ (h.0 refl)) ∙ e in cc
 
 -- ---- the basic columns one by one
+-- the basic ones of the first n columns have their places, and s are the factors in the making then, with one place for
+-- each row
 pub record ChosenTo (f : Form) (basis : List Status) (n : ℕ) (s : Chosen) : Type 0 where
   pub done : steps n (λ k s. cond (is_basic (basis_at basis k)) (choose_run (Some number_limit) f k s) (Ok s))
       (none_chosen f) ≡ Ok s
@@ -78,9 +81,12 @@ module _ (f : Form) (basis : List Status) where
   abbrev at : ℕ → Chosen → Result Chosen (NoFactors ℚ)
   at k s = cond (is_basic (basis_at basis k)) (choose_run (Some number_limit) f k s) (Ok s)
 
+  -- the status that is read at k is that of column k in the basis
   pub status_read : (k : ℕ) (s : Status) → slice_get basis k ≡ Some s → basis_at basis k ≡ s
   status_read k s e = get_or_from_slice_get basis k s _ e
 
+  -- where places are chosen for the basic columns below k, and column k is basic and gets one, they are chosen for
+  -- those below k + 1
   pub one_more : (k : ℕ) (s u : Chosen) (status : Status) → ChosenTo f basis k s → slice_get basis k ≡ Some status →
       is_basic status ≡ true → choose_run (Some number_limit) f k s ≡ Ok u → length u.columns ≡ length s.columns →
       ChosenTo f basis (k + 1) u
@@ -92,6 +98,8 @@ module _ (f : Form) (basis : List Status) where
     all = l ∙ d.all;
   }
 
+  -- where places are chosen for the basic columns below k, and column k is not basic, they are chosen for those below k
+  -- + 1
   pub passed_by : (k : ℕ) (s u : Chosen) (status : Status) → ChosenTo f basis k s → slice_get basis k ≡ Some status →
       is_basic status ≡ false → u ≡ s → ChosenTo f basis (k + 1) u
   passed_by k s u status d e b same = subst (ChosenTo f basis (k + 1)) (sym same) (record {
@@ -102,6 +110,8 @@ module _ (f : Form) (basis : List Status) where
     all = d.all;
   })
 
+  -- where places are chosen for the basic columns below k, and choosing one for the basic column k fails, there are no
+  -- factors, for the same reason
   pub factor_stops : (k : ℕ) (s : Chosen) (status : Status) (x : NoFactors ℚ) → k < f.cols + f.rows →
       ChosenTo f basis k s → slice_get basis k ≡ Some status → is_basic status ≡ true →
       choose_run (Some number_limit) f k s ≡ Err x → factor_run (Some number_limit) f basis ≡ Err x
@@ -111,6 +121,7 @@ module _ (f : Form) (basis : List Status) where
       (ap (λ x. cond (is_basic x) (choose_run (Some number_limit) f k s) (Ok s)) (status_read k status e)
       ∙ ap (λ c. cond c (choose_run (Some number_limit) f k s) (Ok s)) b ∙ h))
 
+  -- where places are chosen for all basic columns, the factors are those of these places
   pub factor_gives : (n : ℕ) (s : Chosen) → n ≡ f.cols + f.rows → ChosenTo f basis n s →
       factor_run (Some number_limit) f basis ≡ Ok (factors_of s)
   unfolding factor_run choose_all
@@ -118,6 +129,7 @@ module _ (f : Form) (basis : List Status) where
       ap (λ n. steps n at (none_chosen f) >>= λ s. Ok (factors_of s)) (sym e)
       ∙ ap (λ o. o >>= λ s. Ok (factors_of s)) d.done
 
+  -- where choosing a place for the basic column k stops the code, making the factors stops for the same reason
   pub factor_refused : (k : ℕ) (s u : Chosen) (status : Status) (e : Stop Singular) → k < f.cols + f.rows →
       ChosenTo f basis k s → slice_get basis k ≡ Some status → is_basic status ≡ true →
       Chooses (choose_run (Some number_limit) f k s) u (Err e)

@@ -27,7 +27,7 @@ wider n es h = All-weaker (λ (e : ℕ × ℚ). e.0 < n) (λ e. e.0 < n + 1) (λ
 others : (n : ℕ) (es : Entries) → All (λ e. e.0 < n) es → All (λ e. e.0 ≢ n) es
 others n es h = All-weaker (λ (e : ℕ × ℚ). e.0 < n) (λ e. e.0 ≢ n) (λ e l z. let y : ⊥ = omega (arith, l, z) in y) es h
 
--- what stands where one more entry is pushed
+-- pushing an entry at place n leaves what the entries have at each other place i
 pushed_other : (es : Entries) (n i : ℕ) (v : ℚ) → n ≢ i → entry_of (es ++ (n, v) ∷ []) i ≡ entry_of es i
 pushed_other [] n i v d = rw (ne_eqb n i d) refl
 pushed_other (e ∷ es) n i v d = ap (cond (nat_eq e.0 i) e.1) (pushed_other es n i v d)

@@ -31,11 +31,14 @@ module _ (f : Form) (starts : List (RowStart ℚ)) (s : Revised) (z : List ℚ) 
       ap (λ o. refused_as cause.Past o >>= λ u. refreshed_run (Some number_limit) f u)
       (sym (exchange_is starts s z p j theta to f h))
 
+  -- where the exchange of a pivot stops for a reason, the pivot stops for it
   pub no_exchange : (e : Stop Spent) → StopsRevised exchange e → StopsRevised whole e
   no_exchange e k =
       subst (λ r. StopsRevised r e) from_exchange (stops_after exchange (λ u. refreshed_run (Some number_limit) f u) e
       k)
 
+  -- where the exchange of a pivot gives u, what taking the factors of u anew leaves, if it is time, is what the pivot
+  -- leaves
   pub pivots : (u new : Revised) (result : Result ⊤ (Stop Spent)) → exchange ≡ Ok u →
       LeavesRevised (refreshed_run (Some number_limit) f u) new result → LeavesRevised whole new result
   pivots u new result k l =

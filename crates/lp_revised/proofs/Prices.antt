@@ -18,10 +18,11 @@ use Rattle.spec_factor.specs.Revised.{price_run}
 use Rattle.lp_revised.proofs.Gaps.{Entries, row_at, value_at, bound, less_zero_right, entry_there, row_inside, bound_at}
 use Rattle.lp_revised.proofs.Gaps.{bound_end, bound_least, next_bound, none_first, none_between, steps_to}
 
+-- what pricing column k does at row i: it takes the row's multiplier times the column's entry off d
 abbrev pub price_at : Form → List ℚ → ℕ → ℕ → ℚ → Run ℚ
 price_at f y k i d = less_product (Some number_limit) (get_or y i 0ℚ) (column_entry f i k) d
 
--- the rows before entry c are taken off
+-- column k is priced up to entry c: its cost less what the rows before that entry take off is d, of at most 127 bits
 pub record PricedTo (f : Form) (costs y : List ℚ) (k : ℕ) (es : Entries) (c : ℕ) (d : ℚ) : Type 0 where
   pub done : steps (bound f.rows es c) (price_at f y k) (cost_at costs k) ≡ Ok d
   pub narrow : IsNarrow d
@@ -40,6 +41,7 @@ module _ (f : Form) (costs y : List ℚ) (k : ℕ) (all : length y ≡ f.rows) (
     nothing : (i : ℕ) → entry_of es i ≡ 0ℚ → column_entry f i k ≡ 0ℚ
     nothing i e = structural i ∙ ap neg_ℚ e ∙ neg-zero
 
+    -- before the first entry the price of column k is its cost
     pub priced_first : (d : ℚ) → d ≡ cost_at costs k → IsNarrow d → PricedTo f costs y k es 0 d
     priced_first d e n = record {
       done = steps_to (price_at f y k) (cost_at costs k) d 0 (bound f.rows es 0) (ap Ok (sym e)) (omega arith)
@@ -58,6 +60,7 @@ module _ (f : Form) (costs y : List ℚ) (k : ℕ) (all : length y ≡ f.rows) (
       value_is : value_at es c ≡ item.1
       value_is = sym (ap (λ (e : ℕ × ℚ). e.1) item_is)
 
+      -- the row of entry c has a multiplier
       pub item_in : item.0 < length y
       item_in = subst (λ n. item.0 < n) (sym all) (subst (λ r. r < f.rows) row_is (row_inside f.rows es h c here))
 
@@ -74,12 +77,15 @@ module _ (f : Form) (costs y : List ℚ) (k : ℕ) (all : length y ≡ f.rows) (
         before =
             subst (λ b. steps b (price_at f y k) (cost_at costs k) ≡ Ok d) (bound_at f.rows es h c here) so_far.done
 
+        -- where column k is priced up to entry c, and the operation there is refused, its price is refused
         pub priced_stop : (p : Past ℚ) → less_product (Some number_limit) x v d ≡ Err p →
             price_run (Some number_limit) f costs y k ≡ Err p
         priced_stop p e =
             steps_stop (row_at es c) f.rows (price_at f y k) (cost_at costs k) d p (row_inside f.rows es h c here)
             before (step_is (Err p) e)
 
+        -- where column k is priced up to entry c with d, it is priced up to the next entry with d less the multiplier
+        -- times the entry's negative
         pub priced_next : (r : ℚ) → less_product (Some number_limit) x v d ≡ Ok r → IsNarrow r →
             PricedTo f costs y k es (c + 1) r
         priced_next r e n = record {
@@ -93,6 +99,7 @@ module _ (f : Form) (costs y : List ℚ) (k : ℕ) (all : length y ≡ f.rows) (
           narrow = n;
         }
 
+    -- where column k is priced past its last entry with d, its reduced cost is d
     pub priced_whole : (c : ℕ) (d : ℚ) → length es ≤ c → PricedTo f costs y k es c d →
         price_run (Some number_limit) f costs y k ≡ Ok d
     priced_whole c d l p =
@@ -107,7 +114,7 @@ module _ (f : Form) (costs y : List ℚ) (k : ℕ) (all : length y ≡ f.rows) (
       other : (i : ℕ) → i ≢ r → column_entry f i k ≡ 0ℚ
       other i e = rw (le-ltb k f.cols out, ne_eqb i (k - f.cols) (λ z. e (z ∙ sym r_is))) refl
 
-      -- an artificial has nothing in any row
+      -- where k is behind the logical columns, its reduced cost is its cost, as the column is 0 in each row
       pub priced_nothing : f.rows ≤ r → price_run (Some number_limit) f costs y k ≡ Ok d
       priced_nothing l =
           steps_to (price_at f y k) (cost_at costs k) d 0 f.rows (ap Ok (sym d_is)) (omega arith)
@@ -124,10 +131,12 @@ module _ (f : Form) (costs y : List ℚ) (k : ℕ) (all : length y ≡ f.rows) (
             ap₂ (λ a b. less_product (Some number_limit) a b d)
             (sym (x_is ∙ get_or_default y r x 0ℚ (subst (λ m. r < m) (sym all) here))) (own ∙ sym v_is) ∙ e
 
+        -- where the operation for a logical column's row is refused, the price of the column is refused
         pub logical_stop : (p : Past ℚ) → less_product (Some number_limit) x v d ≡ Err p →
             price_run (Some number_limit) f costs y k ≡ Err p
         logical_stop p e = steps_stop r f.rows (price_at f y k) (cost_at costs k) d p here begun (step_own (Err p) e)
 
+        -- the reduced cost of a logical column is its cost less the multiplier of its row times 1
         pub logical_priced : (w : ℚ) → less_product (Some number_limit) x v d ≡ Ok w → IsNarrow w →
             price_run (Some number_limit) f costs y k ≡ Ok w
         logical_priced w e m =

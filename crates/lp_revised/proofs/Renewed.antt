@@ -39,12 +39,15 @@ module _ (f : Form) (now : Revised) (basis : List Status) (b : basis ≡ factor_
   unfolding refactor_run
   by_basis = ap (λ basis. factor_stop (factor_run (Some number_limit) f basis) >>= λ s. Ok (refactored now.bare s)) b
 
+  -- where making factors for the statuses of a state stops for a reason, taking its factors anew stops for it
   pub no_factors : (e : Stop Spent) → StopsRevised (factor_stop (factor_run (Some number_limit) f basis)) e →
       StopsRevised (refactor_run (Some number_limit) f now.bare) e
   no_factors e h =
       subst (λ r. StopsRevised r e) by_basis (stops_after (factor_stop (factor_run (Some number_limit) f basis))
       (λ s. Ok (refactored now.bare s)) e h)
 
+  -- where factors are made for the statuses of a state, taking them anew gives the state with these pairs, none
+  -- replaced, and the basic columns in their places
   pub renewed : (old : Revised) (factors : Factors) (items : List ℕ) → old ≡ now →
       factor_stop (factor_run (Some number_limit) f basis) ≡ Ok factors →
       items ≡ map (λ k. standing now.bare k) factors.basic

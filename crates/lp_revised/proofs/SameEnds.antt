@@ -17,9 +17,11 @@ use Rattle.lp_revised.specs.declared.stop.Spent.{Spent}
 use Rattle.lp_frac.specs.declared.stop.Stop.TheVariants as stop
 use Rattle.lp_revised.specs.Runs.{EndsOver, EndsWhole, over_end}
 
+-- how a run over factors ends, or why it stops
 abbrev Outcome : Type 0
 Outcome = Result OverEnd (RunStop ℚ)
 
+-- where the answer of a run on whole tableaus is that it is spent, the run is
 is_spent : (whole : Result PhasesEnd (RunStop ℚ)) → answer_in whole ≡ Err cause.Spent → whole ≡ Err cause.Spent
 is_spent (Ok e) h = let z : ◌≡◌ {A = Outcome} (Ok (answer_of e)) (Err cause.Spent) = h in cc
 is_spent (Err s) h = let z : ◌≡◌ {A = Outcome} (Err s) (Err cause.Spent) = h in let y : s ≡ cause.Spent = cc in ap Err y
@@ -28,7 +30,8 @@ module _ (budget : ℕ) (m : Model) (f : Form) (formed : form_of (Some number_li
   abbrev limited : Outcome
   limited = over_run (Some number_limit) budget f
 
-  -- the run at the limit is no refusal, so it is the one on whole tableaus
+  -- where the run over factors at the limit ends as r, and r is no refusal of a number, the run on whole tableaus
+  -- without a limit answers r
   is_whole : (r : Outcome) → limited ≡ r → ((p : Past ℚ) → r ≡ Err (cause.Past p) → ⊥) →
       answer_in (phases_run None budget f) ≡ r
   is_whole r h n =
@@ -37,6 +40,8 @@ module _ (budget : ℕ) (m : Model) (f : Form) (formed : form_of (Some number_li
       (λ p. absurd (n p.0 (sym h ∙ p.1)))
       ((over_agrees (Some number_limit) budget f).same)
 
+  -- where a result ends the run over factors, or is spent with it, it does so for the run on whole tableaus without a
+  -- limit
   pub ends_whole : (result : Result RunEnd (Stop Spent)) → EndsOver limited result → EndsWhole
       (phases_run None budget f) result
   ends_whole (Ok e) h =

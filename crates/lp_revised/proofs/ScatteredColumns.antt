@@ -44,7 +44,7 @@ module _ (f : Form) (k : ℕ) where
   whole : (w : List ℚ) → PutTo f.rows w → w ≡ column_of f k
   whole w d = all_made f.rows (λ i. column_entry f i k) w (whole_done item f.rows zeros w d long)
 
-  -- those before entry c
+  -- the list has the items of column k that the entries before entry c make, and 0 elsewhere
   abbrev pub NegatedTo : Entries → ℕ → List ℚ → Type 0
   NegatedTo es c w = PutTo (bound f.rows es c) w
 
@@ -56,6 +56,7 @@ module _ (f : Form) (k : ℕ) where
     gap : (i : ℕ) → i < f.rows → entry_of es i ≡ 0ℚ → item i ≡ Ok (get_or zeros i 0ℚ)
     gap i l e = nothing i l (structural i ∙ ap neg_ℚ e ∙ neg-zero)
 
+    -- zeros are the column with none of its entries put in yet
     pub negated_first : (w : List ℚ) → w ≡ zeros → NegatedTo es 0 w
     negated_first w e =
         subst (NegatedTo es 0) (sym e)
@@ -76,9 +77,11 @@ module _ (f : Form) (k : ℕ) where
       row_in : row_at es c < f.rows
       row_in = row_inside f.rows es h c here
 
+      -- the row of entry c is a place of the list
       pub in_column : (w : List ℚ) → NegatedTo es c w → e.0 < length w
       in_column w d = subst (λ n. e.0 < n) (sym (d.all ∙ long)) (subst (λ r. r < f.rows) row_is row_in)
 
+      -- where the entries before c are put in, setting the negative of entry c in its row puts in those before c + 1
       pub negated_next : (w u : List ℚ) (x : ℚ) → NegatedTo es c w → x ≡ neg_ℚ e.1 → u ≡ set w e.0 x →
           NegatedTo es (c + 1) u
       negated_next w u x d x_is u_is =
@@ -96,6 +99,7 @@ module _ (f : Form) (k : ℕ) where
           (subst (λ n. bound f.rows es (c + 1) ≤ n) (sym (after.all ∙ long)) b)
           (λ i p q. gap i (omega (arith, q, b)) (none_between f.rows es h c i here (omega (arith, p)) q)))
 
+    -- where all entries are put in, the list is the form's column k
     pub negated_whole : (c : ℕ) (w : List ℚ) → length es ≤ c → NegatedTo es c w → w ≡ column_of f k
     negated_whole c w l d = whole w (subst (λ b. PutTo b w) (bound_end f.rows es h c l) d)
 
@@ -107,12 +111,14 @@ module _ (f : Form) (k : ℕ) where
     other : (i : ℕ) → i ≢ r → column_entry f i k ≡ 0ℚ
     other i e = rw (le-ltb k f.cols out, ne_eqb i (k - f.cols) (λ z. e (z ∙ sym r_is))) refl
 
+    -- zeros are the column of a k past the last logical column
     pub no_row : (w : List ℚ) → f.rows ≤ r → w ≡ zeros → w ≡ column_of f k
     no_row w l e =
         whole w (subst (PutTo f.rows) (sym e)
         (still_to item 0 f.rows zeros zeros (none_done item zeros) (omega arith) (in_zeros f.rows (omega arith))
         (λ i _ q. nothing i q (other i (λ z. let y : ⊥ = omega (arith, q, l, z) in y)))))
 
+    -- zeros with 1 set in row r are the form's logical column of row r
     pub one_row : (v w : List ℚ) (x : ℚ) → r < f.rows → v ≡ zeros → x ≡ 1ℚ → w ≡ set v r x → w ≡ column_of f k
     one_row v w x here e x_is w_is =
         let before : PutTo r zeros =

@@ -44,7 +44,7 @@ pub gives : {A : Type 0} (run : Run A) (a : A) → refused_as {E = RunStop ℚ} 
 gives (Ok b) a h = cc
 gives (Err q) a h = cc
 
--- the place of a pivot has an entry
+-- the place p that the ratio test finds is a row of the tableau, and the solved column is not 0 there
 entry_there : (starts : List (RowStart ℚ)) (t : Tableau) (z : List ℚ) (e : Entering) (best : Best ℚ) (p : ℕ) →
     best_run (Some number_limit) (seen starts t e.col z) e ≡ Ok (Some best) → best.place ≡ Some p
     → (p < t.rows) × (get_or z p 0ℚ ≢ 0ℚ)
@@ -77,6 +77,7 @@ module _ (f : Form) (starts : List (RowStart ℚ)) (costs : List ℚ) (s : Revis
   on_from y = entering_run (Some number_limit) f costs y s.bare >>= λ e. selection_with (Some number_limit) f starts s y
       e
 
+  -- where the multipliers stop for a reason, what the step sees stops for it
   pub no_multipliers : (e : Stop Spent) →
       StopsRevised (refused_as cause.Past (multipliers_run (Some number_limit) starts costs s)) e →
       StopsRevised (refused_as cause.Past whole) e
@@ -90,9 +91,11 @@ module _ (f : Form) (starts : List (RowStart ℚ)) (costs : List ℚ) (s : Revis
     unfolding selection_run
     from_y = ap (λ o. o >>= on_from) (gives (multipliers_run (Some number_limit) starts costs s) y y_is)
 
+    -- where the search for an entering column is refused an operation, what the step sees is refused it
     pub no_entering : (p : Past ℚ) → entering_run (Some number_limit) f costs y s.bare ≡ Err p → whole ≡ Err p
     no_entering p h = from_y ∙ ap (λ o. o >>= λ e. selection_with (Some number_limit) f starts s y e) h
 
+    -- where no column enters, the step sees the bare tableau, and chooses the end `Optimal`
     pub none_enters : entering_run (Some number_limit) f costs y s.bare ≡ Ok None →
         whole ≡ Ok (record { multipliers = y; tableau = s.bare; choice = End Optimal })
     none_enters h = from_y ∙ ap (λ o. o >>= λ e. selection_with (Some number_limit) f starts s y e) h
@@ -110,6 +113,7 @@ module _ (f : Form) (starts : List (RowStart ℚ)) (costs : List ℚ) (s : Revis
       from_e : whole ≡ (solve >>= after_solve)
       from_e = from_y ∙ ap (λ o. o >>= λ e. selection_with (Some number_limit) f starts s y e) e_is
 
+      -- where solving for the entering column stops for a reason, what the step sees stops for it
       pub not_solved : (x : Stop Spent) → StopsRevised (refused_as cause.Past solve) x →
           StopsRevised (refused_as cause.Past whole) x
       not_solved x h =
@@ -119,6 +123,7 @@ module _ (f : Form) (starts : List (RowStart ℚ)) (costs : List ℚ) (s : Revis
         from_z : whole ≡ after_solve z
         from_z = from_e ∙ ap (λ o. o >>= after_solve) (gives solve z z_is)
 
+        -- where the choice at what is seen is refused an operation, what the step sees is refused it
         pub not_chosen : (p : Past ℚ) → choice_seen starts s.bare z e ≡ Err p → whole ≡ Err p
         not_chosen p h = from_z ∙ by (best_run (Some number_limit) (seen starts s.bare e.col z) e) h
           where
@@ -127,6 +132,8 @@ module _ (f : Form) (starts : List (RowStart ℚ)) (costs : List ℚ) (s : Revis
             by (Ok b) h = cc
             by (Err q) h = let w : q ≡ p = cc in ap (λ q. Err q) w
 
+        -- where the entering column is solved as z, the step sees the tableau with z, and makes the choice that is due
+        -- there
         pub selected : (choice : Choice ℚ) → choice_seen starts s.bare z e ≡ Ok choice →
             whole ≡ Ok (record { multipliers = y; tableau = seen starts s.bare e.col z; choice = choice })
         selected choice h = from_z ∙ by (best_run (Some number_limit) (seen starts s.bare e.col z) e) h

@@ -18,10 +18,12 @@ one_times : (v : ℚ) → v ≡ logical_sign (Within 0ℚ) *ℚ v
 one_times v = sym (one-*ℚ v)
 
 module _ (starts : List (RowStart ℚ)) (t : Tableau) (k : ℕ) (v : ℚ) where
+  -- where column k is structural or logical, v is the sign of column k times v
   pub of_form : k < form_columns t → v ≡ sign_of starts t k *ℚ v
   of_form l = rw (lt-leb (form_columns t) k l) (one_times v)
 
-  -- the start that was read
+  -- the sign of artificial column k is that of the logical column of its row's start, if the start was read at k less
+  -- the first artificial
   pub of_start : (s : RowStart ℚ) (first : ℕ) → first ≡ form_columns t → first ≤ k → k - first < length starts →
       s ≡ get_or starts (k - first) s → sign_of starts t k ≡ logical_sign s
   of_start s first e l h is =
@@ -29,12 +31,15 @@ module _ (starts : List (RowStart ℚ)) (t : Tableau) (k : ℕ) (v : ℚ) where
       (ap logical_sign (ap (λ n. start_at starts (k - n)) (sym e)
       ∙ sym (is ∙ get_or_default starts (k - first) s (Within 0ℚ) h)))
 
+  -- where column k's row starts below its limits, -v is v times the sign of column k
   pub turned : (g x : ℚ) → sign_of starts t k ≡ logical_sign (Below g) → x ≡ neg_ℚ v → x ≡ sign_of starts t k *ℚ v
   turned g x e is = is ∙ ap neg_ℚ (one_times v) ∙ sym (neg-*ℚ (logical_sign (Within 0ℚ)) v) ∙ ap (λ a. a *ℚ v) (sym e)
 
+  -- where column k's row starts within its limits, v is v times the sign of column k
   pub within_as_it_is : (g : ℚ) → sign_of starts t k ≡ logical_sign (Within g) → v ≡ sign_of starts t k *ℚ v
   within_as_it_is g e = one_times v ∙ ap (λ a. a *ℚ v) (sym e)
 
+  -- where column k's row starts above its limits, v is v times the sign of column k
   pub above_as_it_is : (g : ℚ) → sign_of starts t k ≡ logical_sign (Above g) → v ≡ sign_of starts t k *ℚ v
   above_as_it_is g e = one_times v ∙ ap (λ a. a *ℚ v) (sym e)
 

@@ -10,12 +10,12 @@ use Rattle.spec_model.specs.Kept.{AreEntries, row_limit}
 use Rattle.spec_exact.specs.Run.{made}
 use Rattle.spec_factor.specs.Factors.{Pair, Factors}
 
--- the eta pair of a place and a column of `rows` items, which has these entries and is 0 elsewhere
+-- the pair at a place whose column has `rows` items: these entries, and 0 elsewhere
 abbrev pub pair_of : ℕ → ℕ → List (ℕ × ℚ) → Pair
 pair_of rows place entries = record { place = place; column = made rows (λ i. entry_of entries i) }
 
--- The items of a column that are not 0 stand in the order of their places. Its entry at the place that the pair of
--- factors takes is the pivot, and is not 0.
+-- The items are the entries of a column that are not 0, in the order of their places, of at most 127 bits. The entry at
+-- the pair's own place is `pivot`, which is not 0.
 pub record IsEta (rows place : ℕ) (pivot : ℚ) (items : List (ℕ × ℚ)) : Type 0 where
   pub few : rows ≤ row_limit
   pub inside : place < rows
@@ -24,19 +24,19 @@ pub record IsEta (rows place : ℕ) (pivot : ℚ) (items : List (ℕ × ℚ)) : 
   pub not_zero : pivot ≢ 0ℚ
   pub narrow : All (λ e. IsNarrow e.1) items
 
--- how an eta pair is stored: its place and its column
+-- how a pair is stored: as its place and its column, from which it is made again
 abbrev pub pair_code : Coded Pair
 pair_code =
     code_by (ℕ × List ℚ) (coded× coded_ℕ (coded_list fraction_code)) (λ e. (e.place, e.column))
     (λ p. record { place = p.0; column = p.1 }) (λ e. refl)
 
--- the entries are the first n items of a list, without those that are 0
+-- the items are the first n of a list that are not 0, with their places in order; each has at most 127 bits
 pub record AreItems (n : ℕ) (column : List ℚ) (items : List (ℕ × ℚ)) : Type 0 where
   pub entries : AreEntries n items
   pub read : (i : ℕ) → i < n → entry_of items i ≡ get_or column i 0ℚ
   pub narrow : All (λ e. IsNarrow e.1) items
 
--- at most as many places as a model has rows, and columns of as many items
+-- factors have at most 256 places, and the column of each of their pairs has an item for each place
 pub record AreFactorsOf (s : Factors) : Type 0 where
   pub few : length s.basic ≤ row_limit
   pub columns : All (λ (e : Pair). length e.column ≡ length s.basic) s.pairs

@@ -10,25 +10,25 @@ use Rattle.spec_simplex.specs.Step.{is_place, shifted_run, exchanged, turned}
 use Rattle.spec_factor.specs.Factors.{with_pair}
 use Rattle.spec_factor.specs.Revised.{Revised, seen_entry}
 
--- two states of the revised simplex are the same but for the values of the columns
+-- the state u is s but for the values of the columns, of which nothing is asked
 abbrev pub WithValues : Revised → Revised → Type 0
 WithValues s u = u ≡ record s { bare = record s.bare { value = u.bare.value } }
 
 -- the values after the basic column at position i moved with the entering column, which is z by places and moves by
--- theta
+-- theta: by the opposite of its entry times theta; or the refusal
 abbrev pub moved_by : List (RowStart ℚ) → Tableau → List ℚ → ℚ → ℕ → List ℚ → Run (List ℚ)
 moved_by starts t z theta i values =
     less_product (Some number_limit) (seen_entry starts t z i) theta (get_or values (basic_at t i) 0ℚ) >>= λ v.
     Ok (slice_set values (basic_at t i) v)
 
 -- the values after the basic columns at the first n positions moved with the entering column, which is z by places and
--- moves by theta; the one at position `but` stays
+-- moves by theta; the one at position `but` stays. Or the first refusal.
 abbrev pub moves_by : List (RowStart ℚ) → Tableau → List ℚ → ℚ → Option ℕ → ℕ → Run (List ℚ)
 moves_by starts t z theta but n =
     steps n (λ i values. if is_place but i then Ok values else moved_by starts t z theta i values) t.value
 
--- a pivot without the renewal of factors: column j, which is z by places, moves by theta and takes place p, whose
--- column goes to a bound
+-- a pivot without the renewal of factors, or the first refusal: column j, which is z by places, moves by theta and
+-- takes place p, whose column goes to the bound `to`
 abbrev pub exchanged_by : List (RowStart ℚ) → Revised → List ℚ → ℕ → ℕ → ℚ → Status → Run Revised
 exchanged_by starts s z p j theta to =
     moves_by starts s.bare z theta (Some p) s.bare.rows >>= λ values.

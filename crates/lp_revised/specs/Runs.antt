@@ -26,7 +26,7 @@ use Rattle.lp_frac.specs.declared.stop.Stop.TheVariants as stop
 use Rattle.lp_revised.specs.Answer.{StopsRevised}
 use Rattle.lp_revised.specs.Selecting.{tableau_of}
 
--- the flip or the pivot of a step; an end changes nothing
+-- the state after the flip or the pivot of a step, or why there is none; a choice that is an end leaves it as it is
 abbrev pub made_run : Form → List (RowStart ℚ) → Revised → Option Column → Choice ℚ → Result Revised (RunStop ℚ)
 made_run f starts s column (End end) = Ok s
 made_run f starts s column (Flip j) =
@@ -34,39 +34,43 @@ made_run f starts s column (Flip j) =
 made_run f starts s column (Pivot p j theta to) =
     pivot_over_run (Some number_limit) f s (tableau_of starts s.bare column) p j theta to
 
--- what the last step saw: its multipliers, its tableau and its end
+-- what the last step saw and chose, by what the code keeps of it: its multipliers, its tableau and its end
 abbrev pub selection_at : List (RowStart ℚ) → Tableau → StepsEnd → Selection
 selection_at starts t e =
     record { multipliers = e.multipliers; tableau = tableau_of starts t e.column; choice = End e.end }
 
--- how the steps ended, with the last state and the count of pivots and flips
+-- the end of steps that the code keeps, with this state and this count, as the definition has it
 abbrev pub ended_of : List (RowStart ℚ) → Revised → ℕ → StepsEnd → RevisedEnded
 ended_of starts s used e =
     record { end = e.end; state = s; selection = selection_at starts s.bare e; used = used }
 
--- an end of a run: `Optimal` where no column enters, and else `Unbounded` by the entering column, which is given by places
+-- How a run may end at the tableau t: as `Optimal` without an entering column; with one, as `Unbounded` by it, and its
+-- solution by places has as many items as t has rows.
 abbrev pub EndsWith : Tableau → Option Column → PrimalEnd → Type 0
 EndsWith t None end = end ≡ Optimal
 EndsWith t (Some c) Optimal = ⊥
 EndsWith t (Some c) (Unbounded j way) = (c.number ≡ j) × (length c.solved ≡ t.rows)
 
--- the steps of a phase end so, with this state and this count, or stop so, or memory was wanting
+-- the stated steps of a phase end as the code's do, with this state and this count, or stop as they do; of a stop for
+-- lack of memory nothing is asked
 abbrev pub RunsOver : Result RevisedEnded (RunStop ℚ) → List (RowStart ℚ) → Revised → ℕ → Result StepsEnd (Stop Spent) →
     Type 0
 RunsOver answer starts s used (Ok e) = answer ≡ Ok (ended_of starts s used e)
 RunsOver answer starts s used (Err e) = StopsRevised answer e
 
--- phase one ends so, with this state and the count in its answer, or stops so, or memory was wanting
+-- the stated phase one ends as the code's does, with this state and the count that it gives, or stops as it does; of a
+-- stop for lack of memory nothing is asked
 abbrev pub RunsFirst : Result RevisedEnded (RunStop ℚ) → List (RowStart ℚ) → Revised →
     Result (StepsEnd × ℕ) (Stop Spent) → Type 0
 RunsFirst answer starts s (Ok (e, used)) = answer ≡ Ok (ended_of starts s used e)
 RunsFirst answer starts s (Err e) = StopsRevised answer e
 
--- an end of the code as an end of the definitions
+-- the end of a run over factors that the code keeps, as the definition has it
 abbrev pub over_end : RunEnd → OverEnd
 over_end e = record { certificate = e.certificate; basis = e.basis; pivots = e.pivots }
 
--- phase one and two over factors end with this end, or stop for this reason, or memory ran out
+-- the stated phases over factors end as the code's do, or stop as they do;
+-- of a stop for lack of memory nothing is asked
 abbrev pub EndsOver : Result OverEnd (RunStop ℚ) → Result RunEnd (Stop Spent) → Type 0
 EndsOver answer (Ok e) = answer ≡ Ok (over_end e)
 EndsOver answer (Err e) = StopsRevised answer e
@@ -86,7 +90,8 @@ abbrev pub begun_run : ℕ → Form → List (RowStart ℚ) → Tableau → Resu
 begun_run budget f starts t = refactor_run (Some number_limit) f t >>= λ s. over_phases (Some number_limit) budget f
     starts s
 
--- without a limit the run on whole tableaus ends so, or is spent too
+-- Without a limit, the run on whole tableaus ends as the code's run over factors does, and is spent where that is.
+-- Where that is past the limit, or memory is wanting, nothing is asked.
 abbrev pub EndsWhole : Result PhasesEnd (RunStop ℚ) → Result RunEnd (Stop Spent) → Type 0
 EndsWhole whole (Ok e) = answer_in whole ≡ Ok (over_end e)
 EndsWhole whole (Err (stop.Past p)) = Unit {0}

@@ -20,29 +20,30 @@ use Rattle.lp_frac.specs.declared.stop.Stop.{Stop}
 use Rattle.lp_revised.specs.declared.stop.Spent.{Spent}
 use Rattle.lp_revised.specs.Answer.{StopsRevised}
 
--- what a step does with the entering column, which is z by places
+-- the choice of a step by the ratio test of its entering column, which is z by places
 abbrev pub choice_seen : List (RowStart ℚ) → Tableau → List ℚ → Entering → Run (Choice ℚ)
 choice_seen starts t z e = best_run (Some number_limit) (seen starts t e.col z) e >>= λ best. Ok (choice_by e best)
 
--- the choice is of column j, which is z by places, and a pivot's place has an entry
+-- the choice is a flip, a pivot or an unbounded end of column j, which is z by places; a pivot's place is one of t's
+-- rows, and z is not 0 there
 abbrev pub MayDo : Tableau → List ℚ → ℕ → Choice ℚ → Type 0
 MayDo t z j (End Optimal) = ⊥
 MayDo t z j (End (Unbounded k way)) = k ≡ j
 MayDo t z j (Flip k) = k ≡ j
 MayDo t z j (Pivot p k theta to) = (k ≡ j) × (p < t.rows) × (get_or z p 0ℚ ≢ 0ℚ)
 
--- a column of the form that may be entered, and its solution by places
+-- the code's column is one of the state's, and has with it the solution by places that ftran gives
 pub record IsSolved (f : Form) (s : Revised) (c : Column) : Type 0 where
   pub inside : c.number < all_columns s.bare
   pub all : length c.solved ≡ s.bare.rows
   pub solves : ftran_run (Some number_limit) s.bare.rows s.pairs (column_of f c.number) ≡ Ok c.solved
 
--- the choice may be made: without a column that may enter it is an end
+-- the choice may be made: it is the optimal end if no column enters, else one of the entering column, which is solved
 abbrev pub CanDo : Form → Revised → Option Column → Choice ℚ → Type 0
 CanDo f s None choice = choice ≡ End Optimal
 CanDo f s (Some c) choice = IsSolved f s c × MayDo s.bare c.solved c.number choice
 
--- the tableau as the step sees it: with the entering column's entries, where a column enters
+-- the tableau as the step sees it: with the entries of the entering column; as it is where none enters
 abbrev pub tableau_of : List (RowStart ℚ) → Tableau → Option Column → Tableau
 tableau_of starts t None = t
 tableau_of starts t (Some c) = seen starts t c.number c.solved
@@ -52,7 +53,7 @@ abbrev pub selection_of : List (RowStart ℚ) → Tableau → Selected → Selec
 selection_of starts t l =
     record { multipliers = l.multipliers; tableau = tableau_of starts t l.column; choice = l.choice }
 
--- the run selects this, or is refused so, or memory was wanting
+-- the stated run selects what the code does, or is refused as it is; of a stop for lack of memory nothing is asked
 abbrev pub Selects : Run Selection → List (RowStart ℚ) → Tableau → Result Selected (Stop Spent) → Type 0
 Selects run starts t (Ok l) = run ≡ Ok (selection_of starts t l)
 Selects run starts t (Err e) = StopsRevised (refused_as cause.Past run) e

@@ -58,7 +58,8 @@ fn put_one(form: &Form, k: u32, column: &mut Fracs)
     }
 }
 
-// Column `k` of the form's equations, by rows: its coefficients' negatives where it is structural, else 1 in its row.
+// Column `k` of the form's equations, by rows: its coefficients' negatives where it is structural, 1 in its row where
+// it is logical. A column behind these is 0 everywhere.
 pub(crate) fn column_of(alloc: Global, form: &Form, k: u32) -> Result<Fracs, AllocError>
     ensures value { IfOk result (λ c. c ≡ column_by form.now k) }
     ensures all { IfOk result (λ c. length c ≡ form.now.rows) }
@@ -72,7 +73,7 @@ pub(crate) fn column_of(alloc: Global, form: &Form, k: u32) -> Result<Fracs, All
     Ok(column)
 }
 
-// Whether place `i` has no column, and `v` is not 0 there.
+// Whether place `i` has no column yet, and `v` is not 0 there.
 fn is_open(columns: &[Option<u32>], v: &Fracs, i: usize) -> bool
     requires inside { i < length columns.now }
     requires all { length v.now ≡ length columns.now }
@@ -84,7 +85,7 @@ fn is_open(columns: &[Option<u32>], v: &Fracs, i: usize) -> bool
     }
 }
 
-// The least place without a column at which `v` is not 0.
+// The least place without a column at which `v` is not 0; none if there is none.
 fn open_place(columns: &[Option<u32>], v: &Fracs) -> Option<u32>
     requires few { length columns.now ≤ 256 }
     requires all { length v.now ≡ length columns.now }
@@ -112,7 +113,7 @@ impl Chosen {
         })
     }
 
-    // Gives column `k`, which is `v` by places, a place, and adds the eta pair of both.
+    // Gives the place to column `k`, whose solution by places is `v`, and adds the eta pair of the place and `v`.
     fn put(&mut self, alloc: Global, place: u32, k: u32, v: &Fracs) -> Result<(), AllocError>
         requires inside { place < length self.old.columns }
         requires all { length v.now ≡ length self.old.columns }
@@ -132,7 +133,8 @@ impl Chosen {
         Ok(())
     }
 
-    // Solves over the pairs so far: `v`, by rows, becomes the solution by places. After a refusal `v` is open.
+    // Solves over the pairs so far: `v`, by rows, becomes the solution by places. After a refusal `v` may hold any
+    // numbers.
     fn ftran(&self, v: &mut Fracs) -> Result<(), Past>
         requires { length v.old ≡ length self.now.columns }
         ensures run { GivesRun (ftran_run (Some number_limit) (length v.old) self.now.pairs v.old) v.new result }
@@ -141,7 +143,7 @@ impl Chosen {
         forward_all(&self.etas, v)
     }
 
-    // The least place that is open for `v`.
+    // The least place that has no column yet and at which `v` is not 0; none if there is none.
     fn open_place(&self, v: &Fracs) -> Option<u32>
         requires { length v.now ≡ length self.now.columns }
         ensures value { result ≡ open_place_of self.now.columns v.now (length self.now.columns) }
@@ -150,7 +152,8 @@ impl Chosen {
         open_place(&self.columns, v)
     }
 
-    // Gives column `k` the least free place that suits it, or finds that the columns are dependent.
+    // Gives column `k` the least place that is free and at which its solution is not 0. Where there is none the columns
+    // depend on each other: `Singular`.
     fn choose(&mut self, alloc: Global, form: &Form, k: u32) -> Result<(), BasisStop>
         requires column { k < form.now.cols + form.now.rows }
         requires all { length self.old.columns ≡ form.now.rows }
@@ -181,6 +184,7 @@ fn basic_of(alloc: Global, columns: &[Option<u32>]) -> Result<Vec<u32>, AllocErr
 }
 
 // Factors of the columns that are basic by `basis`, the statuses of the form's structural and logical columns.
+// `Singular` where they depend on each other.
 pub(crate) fn factor(alloc: Global, form: &Form, basis: &StatusList) -> Result<Factors, BasisStop>
     requires { length basis.now ≡ form.now.cols + form.now.rows }
     ensures run { MakesFactors (factor_run (Some number_limit) form.now basis.now) result }

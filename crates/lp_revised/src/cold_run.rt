@@ -34,7 +34,7 @@ pub struct RunEnd {
     pub pivots: u64,
 }
 
-// How each row begins at the start of a cold solve, in order.
+// How each row's sum stands at the start of a cold solve, in order: within its limits, or how far outside.
 fn row_starts(alloc: Global, form: &Form) -> Result<Vec<RowStart>, RevisedStop>
     ensures ok { IfOk result (λ v. list_run form.now.rows (starting.row_start (Some number_limit) form.now) ≡ Ok
         v.items) }
@@ -67,7 +67,8 @@ fn begun(alloc: Global, form: &Form, starts: &[RowStart]) -> Result<Revised, All
 }
 
 impl Revised {
-    // Runs phase one where an artificial is basic, and tells its end and how many pivots and flips it took.
+    // Runs phase one, if an artificial is basic, and gives its end and how many pivots and flips it took. Otherwise the
+    // end is at once `Optimal`.
     fn phase_one(
         &mut self,
         alloc: Global,
@@ -202,7 +203,7 @@ impl Revised {
 /// certificate of the end.
 ///
 /// It gives up with the first operation that is past 127 bits, or where the budget is spent. For the form of a model
-/// the run on whole tableaus with unlimited fractions ends so too.
+/// the run on whole tableaus with unlimited fractions ends alike where this one ends with a certificate or is spent.
 pub fn cold_over_factors(alloc: Global, form: &Form, budget: u64) -> Result<RunEnd, RevisedStop>
     ensures run { EndsOver (over_run (Some number_limit) budget form.now) result }
     ensures whole { (m : Model) → form_of (Some number_limit) m ≡ Ok form.now →

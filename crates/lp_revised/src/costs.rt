@@ -41,7 +41,7 @@ impl Revised {
         Ok(list)
     }
 
-    // The multipliers of the rows for these costs: btran of the basic columns' costs.
+    // The multipliers of the rows for these costs: with them the reduced costs of the basic columns are 0.
     pub(crate) fn multipliers(
         &self,
         alloc: Global,

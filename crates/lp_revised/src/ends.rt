@@ -42,7 +42,7 @@ fn multiplier(y: &Fracs, i: u32) -> Frac
     }
 }
 
-// The negatives of the multipliers, one for each row.
+// The negatives of the multipliers `y`, one for each of `rows` rows; 0 for a row that `y` does not have.
 pub(crate) fn negatives_of(alloc: Global, rows: u32, y: &Fracs) -> Result<Fracs, AllocError>
     ensures value { IfOk result (λ z. z ≡ negatives rows y.now) }
     ensures narrow { IfOk result (All IsNarrow) }
@@ -55,7 +55,7 @@ pub(crate) fn negatives_of(alloc: Global, rows: u32, y: &Fracs) -> Result<Fracs,
 }
 
 impl Revised {
-    // The values of the model's columns.
+    // The values of the structural columns, in order.
     fn point(&self, alloc: Global) -> Result<Fracs, AllocError>
         ensures value { IfOk result (λ x. x ≡ solves.point self.now.bare) }
         ensures narrow { IfOk result (All IsNarrow) }
@@ -78,7 +78,8 @@ impl Revised {
         self.entry(starts, column.solved.as_slice(), place)
     }
 
-    // How far column `k` moves when the entering column rises or falls by 1.
+    // How far column `k` moves when the entering column rises or falls by 1, as `way` says; 0 where `k` is another
+    // nonbasic column.
     fn move_of(&self, starts: &[RowStart], column: &Column, way: Way, k: u32) -> Frac
         requires starts { length starts.now ≡ self.now.bare.rows }
         requires solved { length column.now.solved ≡ self.now.bare.rows }
@@ -119,7 +120,7 @@ impl Revised {
         Ok(direction)
     }
 
-    // The certificate of an end: values with multipliers where it is optimal, else values with a ray.
+    // The certificate of an end of phase two: values with multipliers where it is optimal, else values with a ray.
     pub(crate) fn certificate(
         &self,
         alloc: Global,
@@ -147,7 +148,8 @@ impl Revised {
         }
     }
 
-    // The statuses of the basis of an optimal end; another end has none.
+    // The statuses of the basis of an optimal end, where a basic artificial counts as its row's logical; another end
+    // has none.
     pub(crate) fn basis_at(
         &self,
         alloc: Global,

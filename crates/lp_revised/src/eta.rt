@@ -67,8 +67,8 @@ impl Eta {
         })
     }
 
-    // Applies the pair to `v`: divides the item at the place by the pivot, and takes the quotient times each other
-    // entry off that entry's item. After a refusal `v` is open.
+    // Applies the pair to `v`: divides the item at the place by the pivot, and subtracts the quotient times each other
+    // entry from the item at that entry's row. After a refusal `v` may hold any numbers.
     pub(crate) fn forward(&self, v: &mut Fracs) -> Result<(), Past>
         requires all { length self.now.column ≡ length v.old }
         requires narrow { All IsNarrow v.old }
@@ -91,8 +91,8 @@ impl Eta {
         Ok(())
     }
 
-    // Applies the transpose of the pair to `v`: takes each other entry times its item off the item at the place, and
-    // divides that by the pivot. Other items stay. After a refusal `v` is open.
+    // Applies the transpose of the pair to `v`: subtracts each other entry times the item at its row from the item at
+    // the place, and divides that by the pivot. Other items stay. After a refusal `v` may hold any numbers.
     pub(crate) fn backward(&self, v: &mut Fracs) -> Result<(), Past>
         requires all { length self.now.column ≡ length v.old }
         requires narrow { All IsNarrow v.old }

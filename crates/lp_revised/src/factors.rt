@@ -32,6 +32,7 @@ impl Model for Factors {
 }
 
 impl Drop for Factors {
+    // Frees the memory of the pairs and of the list of basic columns.
     fn drop(self) {
         let Factors { etas, basic } = self;
         drop(etas);

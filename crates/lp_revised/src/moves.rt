@@ -13,7 +13,8 @@ use lp_frac::{Frac, Past, less_product, sub};
 use lp_tableau::{directed, flip_way, is_place, or_zero, other_bound, stand};
 
 impl Revised {
-    // Moves the basic column at position `i` as the entering one, which is `solved` by places, moves by `theta`.
+    // Moves the basic column at position `i` as the entering one, whose column of the tableau is `solved`, moves by
+    // `theta`: by the opposite of its entry times `theta`.
     fn move_at(
         &mut self,
         starts: &[RowStart],
@@ -34,7 +35,8 @@ impl Revised {
         Ok(())
     }
 
-    // Moves all basic columns as the entering one moves by `theta`, but for the column at position `but`.
+    // Moves all basic columns as the entering one moves by `theta`, but for the column at position `but`, if there is
+    // one.
     pub(crate) fn move_values(
         &mut self,
         starts: &[RowStart],
@@ -56,7 +58,7 @@ impl Revised {
         Ok(())
     }
 
-    // Makes column `col` nonbasic at the bound `to`, with that bound as its value.
+    // Makes column `col` nonbasic at the bound `to`, with that bound as its value, or 0 for `AtZero`.
     fn put_at(&mut self, col: u32, to: Status)
         requires { col < all_columns self.old.bare }
         ensures { self.new ≡ record self.old { bare = flipped self.old.bare col to self.old.bare.value } }
@@ -66,8 +68,8 @@ impl Revised {
         self.status[col as usize] = to;
     }
 
-    // Moves column `col`, which is `solved` by places, to its other bound, and the basic columns with
-    // it. After a refusal the state is spent.
+    // Moves column `col`, whose column of the tableau is `solved`, to its other bound, and the basic columns with it.
+    // After a refusal the state is spent.
     pub(crate) fn flip(
         &mut self,
         starts: &[RowStart],

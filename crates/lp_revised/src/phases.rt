@@ -27,7 +27,7 @@ impl Revised {
         }
     }
 
-    // Whether the value of column `k` is 0.
+    // Whether the value of column `k` is 0, as it counts where there is no such column.
     fn is_at_zero(&self, k: u32) -> bool
         ensures { result ≡ eq_ℚ (tableaus.value_at self.now.bare k) 0ℚ }
     {

@@ -12,7 +12,8 @@ use lp_simplex::primal::{is_fixed, way};
 use spec_pivot::Way;
 use spec_simplex::Entering;
 
-// The reduced cost of structural column `k`, over its entries.
+// The reduced cost of structural column `k` by the multipliers `y`: its cost plus each of its coefficients times that
+// row's multiplier, as the form's equations have the coefficients negated.
 fn price_structural(form: &Form, costs: &[Frac], y: &[Frac], k: u32) -> Result<Frac, Past>
     requires column { k < form.now.cols }
     requires all { length y.now ≡ form.now.rows }
@@ -26,7 +27,7 @@ fn price_structural(form: &Form, costs: &[Frac], y: &[Frac], k: u32) -> Result<F
     Ok(rest)
 }
 
-// The reduced cost of logical column `k`, whose entry is 1 in its row.
+// The reduced cost of logical column `k` by the multipliers `y`: its cost less its row's multiplier.
 fn price_logical(form: &Form, costs: &[Frac], y: &[Frac], k: u32) -> Result<Frac, Past>
     requires logical { form.now.cols ≤ k }
     requires column { k < form.now.cols + form.now.rows }
@@ -39,7 +40,8 @@ fn price_logical(form: &Form, costs: &[Frac], y: &[Frac], k: u32) -> Result<Frac
     Ok(less)
 }
 
-// The reduced cost of column `k`. An artificial has no entries beside those of its row's logical.
+// The reduced cost of column `k` by the multipliers `y`. That of an artificial is its cost alone: one that is nonbasic
+// is fixed.
 fn price(form: &Form, costs: &[Frac], y: &[Frac], k: u32) -> Result<Frac, Past>
     requires all { length y.now ≡ form.now.rows }
     requires narrow { All IsNarrow y.now }
@@ -55,7 +57,8 @@ fn price(form: &Form, costs: &[Frac], y: &[Frac], k: u32) -> Result<Frac, Past>
 }
 
 impl Revised {
-    // The way in which column `k` moves when it enters; nothing where it may not enter.
+    // The way in which column `k` moves when it enters, by its status and its reduced cost; none where it may not
+    // enter, as a basic or fixed column.
     fn way(&self, form: &Form, costs: &[Frac], y: &[Frac], k: u32) -> Result<Option<Way>, Past>
         requires column { k < all_columns self.now.bare }
         requires all { length y.now ≡ form.now.rows }
@@ -69,7 +72,8 @@ impl Revised {
         Ok(way(status, price(form, costs, y, k)?))
     }
 
-    // The entering column by Bland's rule: the least one that may enter. Those behind it are not priced.
+    // The entering column by Bland's rule: the least one that may enter, with its way; none if no one may. Those behind
+    // it are not priced.
     pub(crate) fn entering(
         &self,
         form: &Form,

@@ -11,7 +11,7 @@ use lp_simplex::primal::{Best, Position, best_at, range};
 use spec_simplex::Entering;
 
 impl Revised {
-    // The tableau's entry at a position in the entering column, which is `solved` by places.
+    // The tableau's entry at a position in the entering column, whose solution by places is `solved`.
     pub(crate) fn entry(&self, starts: &[RowStart], solved: &[Frac], place: u32) -> Frac
         requires starts { length starts.now ≡ self.now.bare.rows }
         requires solved { length solved.now ≡ self.now.bare.rows }
@@ -21,7 +21,8 @@ impl Revised {
         self.signed(starts, self.basic(place), solved[place as usize])
     }
 
-    // The better of `best`, the least ratio of the positions before, and the ratio of position `i`.
+    // The better of `best`, the least ratio of the entering column's own range and the positions before, and the ratio
+    // of position `i`; none where neither stops the entering column.
     fn best_with(
         &self,
         starts: &[RowStart],
@@ -47,7 +48,8 @@ impl Revised {
         best_at(e.direction, at, best)
     }
 
-    // The ratio test: the least ratio of all, or nothing where the entering column may move without end.
+    // The ratio test: the least ratio of the entering column's own range and of all positions, or nothing where the
+    // column may move without end.
     pub(crate) fn best(
         &self,
         starts: &[RowStart],

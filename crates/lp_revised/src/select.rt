@@ -50,7 +50,7 @@ impl Revised {
         Ok(column)
     }
 
-    // What the ratio test does with the entering column, which is `solved` by places.
+    // The step for the entering column, by the ratio test: a pivot, a flip, or the end where nothing stops it.
     fn chosen(&self, starts: &[RowStart], solved: &[Frac], e: Entering) -> Result<Choice, Past>
         requires starts { length starts.now ≡ self.now.bare.rows }
         requires solved { length solved.now ≡ self.now.bare.rows }
@@ -61,7 +61,8 @@ impl Revised {
         Ok(chosen(e, self.best(starts, solved, e)?))
     }
 
-    // Chooses the next step: the multipliers, the entering column, and what the ratio test does with it.
+    // Chooses the next step: the multipliers, the entering column, and the step that the ratio test gives it. Without
+    // an entering column it is the end, as an optimum.
     pub(crate) fn select(
         &self,
         alloc: Global,

@@ -8,7 +8,7 @@ use crate::eta::Eta;
 use crate::items::tell_narrow;
 use lp_frac::{Fracs, Past};
 
-// Applies the pairs to `v` from the first to the last, which is ftran. After a refusal `v` is open.
+// Applies the pairs to `v` from the first to the last, which is ftran. After a refusal `v` may hold any numbers.
 pub(crate) fn forward_all(etas: &[Eta], v: &mut Fracs) -> Result<(), Past>
     requires { All (λ e. length e.column ≡ length v.old) etas.now }
     ensures run { GivesRun (ftran_run (Some number_limit) (length v.old) etas.now v.old) v.new result }
@@ -21,7 +21,8 @@ pub(crate) fn forward_all(etas: &[Eta], v: &mut Fracs) -> Result<(), Past>
     Ok(())
 }
 
-// Applies the transposed pairs to `v` from the last to the first, which is btran. After a refusal `v` is open.
+// Applies the transposed pairs to `v` from the last to the first, which is btran. After a refusal `v` may hold any
+// numbers.
 pub(crate) fn backward_all(etas: &[Eta], v: &mut Fracs) -> Result<(), Past>
     requires { All (λ e. length e.column ≡ length v.old) etas.now }
     ensures run { GivesRun (btran_run (Some number_limit) (length v.old) etas.now v.old) v.new result }

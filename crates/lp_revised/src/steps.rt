@@ -84,7 +84,7 @@ impl Revised {
     }
 
     // Steps until no column may enter, nothing stops the entering column, an operation is past 127
-    // bits, or `budget` pivots and flips were made. `used` counts them.
+    // bits, or one more is due after `budget` pivots and flips. `used` counts them.
     pub(crate) fn run(
         &mut self,
         alloc: Global,
