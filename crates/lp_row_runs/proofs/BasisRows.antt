@@ -61,6 +61,7 @@ module _ (t : Tableau) (all : length t.value ≡ all_columns t)
   abbrev gain : ℕ → ℚ
   gain k = get_or values k 0ℚ -ℚ value_at t k
 
+  -- a column that is basic at no position gains nothing as the values are set
   off : (k : ℕ) → k < all_columns t → ((i : ℕ) → i < t.rows → basic_at t i ≢ k) → gain k ≡ 0ℚ
   off k h none =
       by_basic (status_at t k)
@@ -71,6 +72,8 @@ module _ (t : Tableau) (all : length t.value ≡ all_columns t)
       nothing : (a : ℚ) → a -ℚ a ≡ 0ℚ
       nothing a = simp ring
 
+  -- the value that the basic column of row r gets is minus the sum over all columns k of entry k of the row times the
+  -- value of k
   pub value_left : (r : ℕ) → r < t.rows →
       get_or values (basic_at t r) 0ℚ ≡ neg_ℚ (sum_below (all_columns t) (λ k. entry_at t r k *ℚ value_at t k))
   value_left r h =
@@ -105,6 +108,7 @@ module _ {T : Type 0} (value : T → ℕ) (f : Form) (basis : List Status) (e : 
   abbrev t0 : Tableau
   t0 = with_basis f basis s.now
 
+  -- the stated elimination without a limit gives what the rows are solved to
   eliminated : eliminate_run None f basis ≡ Ok s.now
   unfolding eliminate_run
   eliminated = s.run
@@ -123,6 +127,7 @@ module _ {T : Type 0} (value : T → ℕ) (f : Form) (basis : List Status) (e : 
   starts : start_from None f basis ≡ Ok u
   starts = start_is ∙ ap (refused_as start.Past) filled.1
 
+  -- the tableau of the start from the basis is one of the form's equations, costs and bounds
   begins : BeginsFrom f u
   begins = start_begins_from None f basis u proper fits few starts
 
@@ -147,17 +152,20 @@ module _ {T : Type 0} (value : T → ℕ) (f : Form) (basis : List Status) (e : 
   begun : BeginsFrom f (with_reduced (with_values t0 valued.0) priced.0)
   begun = subst (BeginsFrom f) (sym same) begins
 
+  -- before the basic values are set, each structural and logical column has the value that the basis gives it
   value_is : (k : ℕ) → k < n + f.rows → value_at t0 k ≡ basis_value f basis k
   value_is k h = get_or-made (n + f.rows) (basis_value f basis) k 0ℚ h
 
+  -- before the basic values are set, each basic column has the value 0
   none_basic : (k : ℕ) → k < n + f.rows → status_at t0 k ≡ Basic → value_at t0 k ≡ 0ℚ
   none_basic k h b = value_is k h ∙ ap (λ s. stand s (lower_at t0 k) (upper_at t0 k)) b
 
-  -- an artificial by the number of its row
+  -- what holds of the artificial column of each row holds of each artificial column k
   artificial : (P : ℕ → Type 0) (k : ℕ) → n ≤ k → k < n + f.rows → ((r : ℕ) → r < f.rows → P (n + r)) → P k
   artificial P k h l g =
       let z : n + (k - n) ≡ k = omega (arith, h) in subst P z (g (k - n) (omega (arith, h, l)))
 
+  -- the basis gives each artificial column the value 0
   artificial_zero : (k : ℕ) → n ≤ k → k < n + f.rows → basis_value f basis k ≡ 0ℚ
   artificial_zero k h l =
       artificial (λ k. basis_value f basis k ≡ 0ℚ) k h l
@@ -168,6 +176,7 @@ module _ {T : Type 0} (value : T → ℕ) (f : Form) (basis : List Status) (e : 
       ∙ get_or-append-add f.lower (replicate f.rows (Some 0ℚ)) r None
       ∙ get_or-replicate f.rows r (Some 0ℚ) None q))
 
+  -- over all columns, entries times values sum up in row i to the sum over the structural and logical ones
   left_is : (i : ℕ) → i < f.rows →
       sum_below (n + f.rows) (λ k. entry_at t0 i k *ℚ value_at t0 k) ≡
       sum_below n (λ k. entry_at t0 i k *ℚ basis_value f basis k)
@@ -183,6 +192,7 @@ module _ {T : Type 0} (value : T → ℕ) (f : Form) (basis : List Status) (e : 
   bound_at xs ys h k =
       sym (ap (λ ys. get_or ys k None) h) ∙ get_or-map (bound_of value (value e.tab.denominator)) xs k None
 
+  -- the rows of the elimination show the start's tableau, but for its reduced costs
   shown : Shows value e.tab v
   shown = record {
     rows = s.rows.len;
@@ -208,6 +218,8 @@ module _ {T : Type 0} (value : T → ℕ) (f : Form) (basis : List Status) (e : 
         ∙ value_is k h;
   }
 
+  -- rows that are solved for all columns of a basis show the tableau of the start from the basis, but for the reduced
+  -- costs
   pub shows_basis : ShowsBasis value f basis e.tab
   shows_basis = record {
     tableau = u;
@@ -234,6 +246,7 @@ start_costs f basis t h =
 
 module _ {T : Type 0} (value : T → ℕ) (f : Form) (r : RowTableau T) (costs : Row T)
     (size : HasSize value f r) (priced : IsPricedRow value r f.cost costs) where
+  -- rows of the form's size keep it when their costs are replaced by the row of the form's reduced costs
   pub priced_size : HasSize value f (record r { costs = costs })
   priced_size = record {
     whole = record {
@@ -253,6 +266,8 @@ module _ {T : Type 0} (value : T → ℕ) (f : Form) (r : RowTableau T) (costs :
     cols = size.cols;
   }
 
+  -- where rows show the start from a basis but for the reduced costs, they show the whole of it once their costs are
+  -- the row of the form's reduced costs
   pub priced_shows : (basis : List Status) → IsProper f → IsBasisOf f basis → length f.cost ≤ f.cols + f.rows + f.rows →
       ShowsBasis value f basis r → ShowsStart value f basis (record r { costs = costs })
   priced_shows basis proper fits few b =

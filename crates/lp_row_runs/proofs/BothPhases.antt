@@ -1,7 +1,9 @@
 -- Both phases over rows, part by part: what each ends with, and what is left of it.
 --
--- `is_end`: an end with the certificate and the basis of a tableau's end is the row end of that end.
--- `few_costs`: a tableau that shows rows of the form's size has as many columns as the form has costs, or more.
+-- `is_end`: where certificate and basis are what tableau t gives for an end, the row end of them after `used` steps is
+--   the `row_end` of t's end.
+-- `few_costs`: where rows of a form's size show a tableau, the form has no more costs than the tableau has columns,
+--   artificial ones counted.
 use Rattle.std.proofs.Common.{◌≡◌, ℕ, ◌+◌, ◌-◌, ◌≤◌, List, length, Option, Some, None}
 use Rattle.std.proofs.Common.{Result, Ok, IfOk, true, false, cond}
 use Rattle.std.proofs.Common.{sym, ap, ap₂, ◌∙◌, subst, arith}
@@ -32,6 +34,7 @@ use Rattle.lp_row_runs.specs.declared.phases.PhasesPause.TheVariants.{Ended, Nar
 use Rattle.lp_row_runs.proofs.Reached.{second_given, second_reached}
 
 -- ---- an end
+-- the end of a run over rows with this certificate, basis and count of pivots and flips
 abbrev row : {N : Type 0} → Certificate (List N) → Option (List Status) → ℕ → RowEnd N
 row certificate basis pivots = record { certificate = certificate; basis = basis; pivots = pivots }
 
@@ -42,6 +45,8 @@ is_end of t used None certificate basis c b = ap₂ (λ c b. row c b used) c b
 is_end of t used (Some end) certificate basis c b = ap₂ (λ c b. row c b used) c b
 
 module _ {N T : Type 0} (of : ℚ → N) (value : T → ℕ) (budget : ℕ) (f : Form) where
+  -- where both phases end as `end_by` says, a pause that is that end's certificate and basis is what the run pauses
+  -- with
   pub at_end : (whole : Result PhasesEnd (RunStop ℚ)) (u : Tableau) (now : ℕ) (end : Option PrimalEnd) (s : State T)
       (pause : PhasesPause N) → whole ≡ Ok (end_by u now end) → EndsWith of u now end pause →
       PausesWith of value budget f whole s pause
@@ -54,6 +59,8 @@ module _ {N T : Type 0} (of : ℚ → N) (value : T → ℕ) (budget : ℕ) (f :
     abbrev finish : PrimalEnded → Result PhasesEnd (RunStop ℚ)
     finish two = Ok (Finished two)
 
+    -- where the steps of phase two from t end, a pause that is the end's certificate and basis is what the run pauses
+    -- with
     pub second_ends : (r : RowTableau T) (now : ℕ) (end : PrimalEnd) (e : EndsAt value budget used t r now end)
         (s : State T) (pause : PhasesPause N) → EndsWith of e.tableau now (Some end) pause →
         PausesWith of value budget f (rest_run budget f phase.Two used t) s pause
@@ -61,6 +68,7 @@ module _ {N T : Type 0} (of : ℚ → N) (value : T → ℕ) (budget : ℕ) (f :
         at_end (rest_run budget f phase.Two used t) e.tableau now (Some end) s pause
         (ap (λ o. o >>= finish) e.ends) k
 
+    -- where steps of phase two lead from t to a state, what is left of the run from t is the run from that state
     pub second_left : (s : State T) → s.phase ≡ phase.Two → ComesTo value budget used t s.tab s.used →
         IsLeft value budget f (rest_run budget f phase.Two used t) s
     second_left s p c = record {
@@ -71,6 +79,8 @@ module _ {N T : Type 0} (of : ℚ → N) (value : T → ℕ) (budget : ℕ) (f :
     }
 
     -- ---- phase one
+    -- where the steps of phase one from t end, what the run pauses with from the end of phase one on is what it pauses
+    -- with from t
     pub first_ends : (old : Phase) → old ≡ phase.One → (r : RowTableau T) (now : ℕ) (end : PrimalEnd)
         (e : EndsAt value budget used t r now end) (s : State T) (pause : PhasesPause N) →
         PausesWith of value budget f (rest_run budget f phase.Between now e.tableau) s pause →
@@ -79,6 +89,7 @@ module _ {N T : Type 0} (of : ℚ → N) (value : T → ℕ) (budget : ℕ) (f :
         subst (λ old. PausesWith of value budget f (rest_run budget f old used t) s pause) (sym is)
         (subst (λ whole. PausesWith of value budget f whole s pause) (sym (ap (λ o. o >>= after_one budget f) e.ends)) k)
 
+    -- where steps of phase one lead from t to a state, what is left of the run from t is the run from that state
     pub first_left : (old : Phase) → old ≡ phase.One → (s : State T) → s.phase ≡ old →
         ComesTo value budget used t s.tab s.used → IsLeft value budget f (rest_run budget f old used t) s
     first_left old is s p c =
@@ -92,21 +103,27 @@ module _ {N T : Type 0} (of : ℚ → N) (value : T → ℕ) (budget : ℕ) (f :
         })
 
     -- ---- between them
+    -- the end of phase one at t, after `used` steps, as `Optimal`
     abbrev one : PrimalEnded
     one = record { end = Optimal; tableau = t; used = used }
 
+    -- where an artificial of t is not 0 after phase one, the run ends with the certificate of an infeasible model, by t
     pub stuck_ends : (s : State T) (pause : PhasesPause N) → is_stuck t ≡ true → EndsWith of t used None pause →
         PausesWith of value budget f (rest_run budget f phase.Between used t) s pause
     stuck_ends s pause h k =
         at_end (rest_run budget f phase.Between used t) t used None s pause
         (ap (λ b. cond b (Ok (Infeasible t used)) (phase_two None budget f one)) h) k
 
+    -- where no artificial is stuck, what is left between the phases is what is left of phase two from the tableau that
+    -- begins it
     between_is : (u : Tableau) → is_stuck t ≡ false → phase_two_run None f t ≡ Ok u →
         rest_run budget f phase.Between used t ≡ rest_run budget f phase.Two used u
     between_is u free d =
         ap (λ b. cond b (Ok (Infeasible t used)) (phase_two None budget f one)) free
         ∙ ap (λ o. refused_as stop.Past o >>= λ u. run_from None (budget - used) used u >>= finish) d
 
+    -- where no artificial of t is stuck after phase one, what the run pauses with is what phase two pauses with, from
+    -- the tableau that begins it
     pub goes_second : {E : Type 0} (s : State T) (result : Result (PhasesPause N) E) → IsReached t → is_stuck t ≡ false →
         length f.cost ≤ t.cols + t.rows + t.rows →
         ((u : Tableau) → IsReached u → phase_two_run None f t ≡ Ok u →

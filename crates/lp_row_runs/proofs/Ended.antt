@@ -1,8 +1,8 @@
 -- The end of phase two from the tableau of a basis is that of the warm start from the basis.
 --
 -- `same_at`: the certificate of an end of phase two in exact fractions is the stated certificate of that end.
--- `rows_of`: what holds where there are rows holds of rows that are there.
--- `ready_of`: a beginning that keeps ready where it has a state gives a ready state.
+-- `rows_of`: where b is the rows r, and P holds of the rows of b if it has any, P holds of r.
+-- `ready_of`: where b is the state s, and what b leaves is ready if it is a state, s is ready: a run may go on from it.
 use Rattle.std.proofs.Common.{◌≡◌, ℕ, ◌-◌, List, Option, Some, None, IfSome, IfOk, Result, Ok, Err, refl, sym, ap}
 use Rattle.std.proofs.Common.{subst, subst₂, ◌∙◌, ◌+◌, ◌≤◌, length, arith}
 use Rattle.std.proofs.lemmas.Result.{IfOk-weaker}
@@ -47,6 +47,7 @@ same_at t (primal.Unbounded j way) = refl
 
 module _ (budget : ℕ) (f : Form) (basis : List Status) (t : Tableau) (starts : start_from None f basis ≡ Ok t)
     (fits : fit_run None t ≡ Ok fit.Primal) where
+  -- where the steps from the start of a basis end as o, the warm start from the basis ends so, by the primal method
   run_is : (o : Result PrimalEnded (RunStop ℚ)) → run_from None budget 0 t ≡ o →
       warm_run None budget f basis ≡ (stopped_as run_stop o >>= λ e. Ok (ByPrimal e))
   unfolding warm_run
@@ -55,6 +56,7 @@ module _ (budget : ℕ) (f : Form) (basis : List Status) (t : Tableau) (starts :
       ∙ ap (λ o. refused_as fall.Past o >>= run_by None budget t) fits
       ∙ ap (λ o. stopped_as run_stop o >>= λ e. Ok (ByPrimal e)) h
 
+  -- a row end of phase two from the start of a basis is one of the warm start from the basis
   one_ends : (e : RowEnd ℚ) → row_end_in (λ q. q) (rest_run budget f Two 0 t) ≡ Ok e → EndsFromBasis budget f basis e
   one_ends e h = by (run_from None budget 0 t) refl
       ((let z : budget ≡ budget - 0 = omega arith in
@@ -79,6 +81,7 @@ module _ (budget : ℕ) (f : Form) (basis : List Status) (t : Tableau) (starts :
           sym (ap (λ o. row_end_in (λ q. q) (o >>= λ two. Ok (Finished two))) r) ∙ k in
           cc
 
+  -- where a result ends phase two from the start t of a basis, it ends the warm start from that basis
   pub ends_from : {E : Type 0} (result : Result (Option (RowEnd ℚ)) E) →
       IfOk result (EndsAs (λ q. q) (rest_run budget f Two 0 t)) →
       IfOk result (λ o. IfSome o (EndsFromBasis budget f basis))
@@ -96,11 +99,12 @@ pub ready_of : {T : Type 0} (value : T → ℕ) (f : Form) (b : Begun T) (s : St
 ready_of value f b s e h = subst (BeginsReady value f) e h
 
 module _ {T : Type 0} (value : T → ℕ) (f : Form) (basis : List Status) where
+  -- where b is the state s, and b begins at the basis, s stands at the basis
   pub stands_of : (b : Begun T) (s : State T) → b ≡ begun.Ready s → BeginsAtBasis value f basis b →
       StandsAtBasis value f basis s
   stands_of b s e h = subst (BeginsAtBasis value f basis) e h
 
-  -- rows that are fit
+  -- a state of phase two, after no step, over rows that show the start from a basis and are fit, stands at the basis
   pub stands_at : (r : RowTableau T) (s : State T) → s.tab ≡ r → s.phase ≡ Two → s.used ≡ 0 → IsProper f →
       IsBasisOf f basis → HasCosts f →
       ((f : Form) (t : Tableau) → BeginsFrom f t → Shows value r t → fit_run None t ≡ Ok fit.Primal) →
@@ -119,6 +123,7 @@ module _ {T : Type 0} (value : T → ℕ) (f : Form) (basis : List Status) where
         used = used;
       }
 
+  -- where a state stands at a basis, a result that ends the run from the state ends the warm start from the basis
   pub stands_ends : {E : Type 0} (budget : ℕ) (s : State T) (a : StandsAtBasis value f basis s)
       (result : Result (Option (RowEnd ℚ)) E) →
       IfOk result (EndsAs (λ q. q) (rest_run budget f s.phase s.used a.tableau)) →

@@ -33,10 +33,13 @@ module _ {T : Type 0} (value : T → ℕ) (d h n : ℕ) (x : ℕ → ℚ) (equat
   -- ---- one column more has its value
   module _ (k : ℕ) (a : AreRowsAt value d h n k x equations old) (new : List (Row T)) (by : ℤ) (k_in : k < n)
       (m : AreMoved value n k (over by 1) old new) (stands : over by d ≡ x k) where
+    -- with k columns placed, the last number of row i is minus the sum of its entries times their values
     last_was : (i : ℕ) → i < h → number_in value old i n *ℚ unit ≡ neg_ℚ (sum_below k (λ k. equations i k *ℚ x k))
     last_was i l =
         sym (row_at-on value old d n i n positive a.each (omega (arith, l, a.len)) (omega arith)) ∙ a.values i l
 
+    -- where the value of column k is moved out of the last numbers, rows with the first k columns placed are rows with
+    -- the first k + 1 placed
     pub one_placed : AreRowsAt value d h n (k + 1) x equations new
     one_placed = record {
       len = m.len ∙ a.len;
@@ -68,10 +71,12 @@ module _ {T : Type 0} (value : T → ℕ) (d h n : ℕ) (x : ℕ → ℚ) (equat
     abbrev left : ℕ → ℚ
     left i = sum_below n (λ k. equations i k *ℚ x k)
 
+    -- with all columns placed, the last number of row i is minus what the row leaves
     own_last : (i : ℕ) → i < h → number_in value old i n *ℚ unit ≡ neg_ℚ (left i)
     own_last i l =
         sym (row_at-on value old d n i n positive a.each (omega (arith, l, a.len)) (omega arith)) ∙ a.values i l
 
+    -- the pivot of the rows' numbers is, entry by entry, the pivot of the equations
     entry_is : (i k : ℕ) → i < h → k < n →
         pivoted (number_in value old) p j i k ≡ pivoted equations p j i k
     entry_is i k l q = by_eq i p
@@ -86,7 +91,7 @@ module _ {T : Type 0} (value : T → ℕ) (d h n : ℕ) (x : ℕ → ℚ) (equat
         own : (k : ℕ) → k < n → pivot_row (number_in value old) p j k ≡ pivot_row equations p j k
         own k q = ap₂ (λ u v. u *ℚ inverse v) (a.entries p k p_in q) (a.entries p j p_in j_in)
 
-    -- the row that is divided
+    -- the value of the step of the pivot in column j at p is minus what row p leaves, over the row's entry there
     step_is : step_to value n p j v old *ℚ unit ≡ neg_ℚ (left p) *ℚ inverse (equations p j)
     step_is =
         ap (λ v. (number_in value old p n -ℚ v) *ℚ inverse (number_in value old p j) *ℚ unit) v_is
@@ -96,6 +101,7 @@ module _ {T : Type 0} (value : T → ℕ) (d h n : ℕ) (x : ℕ → ℚ) (equat
         apart : (l e u : ℚ) → (l -ℚ 0ℚ) *ℚ e *ℚ u ≡ (l *ℚ u) *ℚ e
         apart l e u = simp ring
 
+    -- the pivot's own row leaves what it left before, over its entry in column j
     own_sum : sum_below n (λ k. pivoted equations p j p k *ℚ x k) ≡ left p *ℚ inverse (equations p j)
     own_sum =
         sum_below_same n _ (λ k. equations p k *ℚ x k *ℚ inverse (equations p j))
@@ -106,6 +112,7 @@ module _ {T : Type 0} (value : T → ℕ) (d h n : ℕ) (x : ℕ → ℚ) (equat
         swap : (e i x : ℚ) → e *ℚ i *ℚ x ≡ e *ℚ x *ℚ i
         swap e i x = simp ring
 
+    -- each other row leaves what it left before, less its entry in column j times what the pivot's row leaves
     other_sum : (i : ℕ) → i ≢ p → sum_below n (λ k. pivoted equations p j i k *ℚ x k) ≡
         left i -ℚ equations i j *ℚ (left p *ℚ inverse (equations p j))
     other_sum i o =
@@ -123,6 +130,7 @@ module _ {T : Type 0} (value : T → ℕ) (d h n : ℕ) (x : ℕ → ℚ) (equat
         swap : (a b e i x : ℚ) → (a -ℚ b *ℚ (e *ℚ i)) *ℚ x ≡ a *ℚ x -ℚ b *ℚ (e *ℚ x *ℚ i)
         swap a b e i x = simp ring
 
+    -- after the pivot, the last number of row i is minus the sum of the pivoted entries times the values
     value_is : (i : ℕ) → i < h →
         number_in value new i n *ℚ unit ≡ neg_ℚ (sum_below n (λ k. pivoted equations p j i k *ℚ x k))
     value_is i l = by_eq i p
@@ -151,6 +159,8 @@ module _ {T : Type 0} (value : T → ℕ) (d h n : ℕ) (x : ℕ → ℚ) (equat
         join : (s e q i : ℚ) → neg_ℚ s -ℚ e *ℚ (neg_ℚ q *ℚ i) ≡ neg_ℚ (s -ℚ e *ℚ (q *ℚ i))
         join s e q i = simp ring
 
+    -- where all columns are placed, and a pivot takes the rows on with 0 moved and 0 left, they are rows of the pivoted
+    -- equations
     pub turned_rows : AreRowsAt value d h n n x (pivoted equations p j) new
     turned_rows = record {
       len = t.len ∙ a.len;
@@ -177,6 +187,7 @@ module _ {T : Type 0} (value : T → ℕ) (k : ℕ) (old new : RowTableau T) (wh
   moved : AreMoved value (width old) k (over by 1) old.rows.items new.rows.items
   moved = moved_here value k n (over by 1) old new lent rows n_is lent_is rows_is m
 
+  -- where a move changes the last numbers of the rows alone, a whole tableau of rows stays whole
   pub placed_whole : IsWhole value new
   placed_whole =
       whole_flipped value old new whole k (over by 1) moved cols costs basic
@@ -210,6 +221,8 @@ module _ {T : Type 0} (value : T → ℕ) (k : ℕ) (old new : RowTableau T) (wh
         (bound_read old.lower.items (basis_lower f) low low' whole.all_lower u.form.lower low_is)
         (bound_read old.upper.items (basis_upper f) high high' whole.all_upper u.form.upper high_is)
 
+    -- where column k is moved by the value of its status and bounds, unsolved equations with the first k columns placed
+    -- are such with the first k + 1
     pub value_placed : IsUnsolved value f basis (k + 1) new
     value_placed = record {
       whole = placed_whole;

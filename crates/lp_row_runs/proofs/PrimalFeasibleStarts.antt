@@ -1,7 +1,9 @@
 -- The tableau of a basis whose basic values are within their bounds is primal feasible, and reached.
 --
--- `from_bound`: where the order of a value and a lower bound is equal or greater, the value is at least the bound.
--- `up_to_bound`: where the order of a value and an upper bound is less or equal, the value is at most the bound.
+-- `from_bound`: where v is equal to b * e or greater, by their comparison, v / (d * e) is at least the lower bound b /
+--   d.
+-- `up_to_bound`: where v is less than b * e or equal, by their comparison, v / (d * e) is at most the upper bound b /
+--   d.
 -- `inside_read`: where the value that a row holds is within the bounds that are read, the position's basic column of
 --   the tableau is within its bounds.
 use Rattle.std.proofs.Common.{◌≡◌, ℕ, ◌+◌, ◌*◌, ◌<◌, ◌⊎◌, ⊎_elim, List, get_or, ℤ, pos, ◌*ℤ◌, int_cmp, Option, Some, None, IfSome, Ok, Err}
@@ -45,7 +47,7 @@ use Rattle.lp_rows.proofs.SameCounts.{basic_read}
 
 -- ---- a value beside a bound
 
--- the value v over d e, and the bound b over d, as v and b e are
+-- where d and e are above 0, v / (d * e) is to b / d as v is to b * e
 stands_to : (v b : ℤ) (d e one : ℕ) (o : Ordering) → 0 < d → 0 < e → one ≡ 1 →
     o ≡ int_cmp (v *ℤ pos one) (b *ℤ pos e) → o ≡ order (over v (d * e)) (over b d)
 stands_to v b d e one o p q u h =
@@ -133,11 +135,13 @@ module _ (t : Tableau) (inside : (k : ℕ) → k < all_columns t → status_at t
       absurd (not_past x.direction (lower_at t x.col) (upper_at t x.col) (value_at t x.col) l.bound
       (inside x.col l.inside l.basic) l.past)
 
+  -- where each basic column's value is within its bounds, the fit without a limit is `Primal`
   pub fit_is_primal : fit_run None t ≡ Ok fit.Primal
   fit_is_primal = stays (leaving_run None t) refl
 
 -- ---- the tableau of a basis
 module _ (f : Form) (t : Tableau) (b : BeginsFrom f t) where
+  -- where the basic value of each position is within its bounds, the fit of the tableau without a limit is `Primal`
   pub basis_fits : ((i : ℕ) → i < t.rows → IsInside (lower_at t (basic_at t i)) (upper_at t (basic_at t i))
       (value_at t (basic_at t i))) → fit_run None t ≡ Ok fit.Primal
   basis_fits inside =
@@ -160,6 +164,7 @@ module _ (f : Form) (t : Tableau) (b : BeginsFrom f t) where
       let y' : 0ℚ ≡ u = cc in
       subst₂ ◌≤ℚ◌ x' y' (≤ℚ_refl 0ℚ))
 
+  -- the tableau of a basis of a proper form, with the fit `Primal`, is one that a run reaches
   pub basis_reached : IsProper f → fit_run None t ≡ Ok fit.Primal → IsReached t
   basis_reached proper h =
       let g =

@@ -4,10 +4,11 @@
 -- `open_is`: a position that is not taken and has an entry that is not 0 is open, and no other is.
 -- `entry_none`: whether the size of a row's number is 0 says whether the row's entry in that column is 0.
 -- `column_passed`: equations that are solved below a nonbasic column are solved below the next column.
--- `done_of`: what holds where solving is done holds after a solving that is done.
--- `if_done`: what follows from a fact of solving that is done holds where the fact does.
--- `none_over`: a whole number that is 0 makes the fraction 0.
--- `turned_here`: rows that were turned as they were lent are turned rows of the elimination before and after.
+-- `done_of`: where a call's progress is `Done`, and P holds if it is `Done`, P holds.
+-- `if_done`: where Q follows from P, and P holds if the progress is `Done`, Q holds if it is `Done`.
+-- `none_over`: the whole number 0 over 1 is the fraction 0.
+-- `turned_here`: where a pivot took the rows that were lent to those written back, it took the rows of the elimination
+--   before to the rows of the one after.
 use Rattle.std.proofs.Common.{◌≡◌, ℕ, ◌+◌, ◌<◌, List, length, get_or, set, replicate, map}
 use Rattle.std.proofs.Common.{Some, None, Result, Ok, Bool, true, false, not, ◌&&◌, cond, IsTrue}
 use Rattle.std.proofs.Common.{◌↔◌, All, ℤ, pos, refl, sym, ap, ap₂, subst, subst₂, ◌∙◌, arith}
@@ -119,11 +120,13 @@ module _ {T : Type 0} (value : T → ℕ) (f : Form) (basis : List Status) (k : 
       (z ∙ ap (λ q. eq_ℚ q 0ℚ)
       (s.rows.entries i j (omega (arith, i_in, s.rows.len)) (omega (arith, j_in, s.rows.len, s.form.cols))))
 
+  -- a position that reads as taken is not open for column j
   pub taken_read : (t : Bool) → t ≡ get_or e.taken.items i t → t ≡ true → false ≡ is_open s.now j i
   taken_read t g is =
       ap (λ t. cond t false (not (eq_ℚ (number_in value e.tab.rows.items i j) 0ℚ))) (sym is)
       ∙ open_read t (eq_ℚ (number_in value e.tab.rows.items i j) 0ℚ) g refl
 
+  -- a position that reads as not taken is open for column j just where its entry there is not 0
   pub free_read : (t none : Bool) → t ≡ get_or e.taken.items i t → t ≡ false →
       none ≡ eq_ℚ (number_in value e.tab.rows.items i j) 0ℚ → not none ≡ is_open s.now j i
   free_read t none g is z = ap (λ t. cond t false (not none)) (sym is) ∙ open_read t none g z
@@ -141,18 +144,22 @@ module _ {T : Type 0} (value : T → ℕ) (f : Form) (basis : List Status) (j p 
   abbrev all : ℕ
   all = f.cols + f.rows + f.rows
 
+  -- the stated elimination up to column j is solved for the basic columns below j
   so_far : Solving None f basis j s.now
   so_far = eliminated_below None f basis j s.now s.run
 
+  -- the stated rows can be pivoted at position p and column j, without a limit
   turn : (rows : List (List ℚ)) × (turned_run None m all s.now.rows p j ≡ Ok rows)
   turn = given (turned_run None m all s.now.rows p j) (turned_agrees None m all s.now.rows p j).exact
 
   abbrev next : stated.Elimination
   next = record { rows = turn.0; basic = set s.now.basic p (Some j) }
 
+  -- the entries after the stated pivot are those of the pivoted rows
   entry_is : (i k : ℕ) → at_place turn.0 i k ≡ pivoted (at_place s.now.rows) p j i k
   entry_is = turned_entry None m all s.now.rows so_far.all_rows so_far.whole_rows p j p_in turn.0 turn.1
 
+  -- one column of the stated elimination takes position p for column j
   one_run : solve_at f basis j s.now ≡ Ok next
   one_run =
       ap (λ b. cond b (solved_run None f s.now j) (Ok s.now)) (basic_test (basis_at basis j) basic)
@@ -161,6 +168,7 @@ module _ {T : Type 0} (value : T → ℕ) (f : Form) (basis : List Status) (j p 
   p_basic : p < length s.now.basic
   p_basic = omega (arith, p_in, so_far.all_basic)
 
+  -- the rows that were turned are those of the stated rows after the pivot
   rows_are : value old.tab.denominator ≡ value new.tab.denominator →
       AreRowsAt value (value new.tab.denominator) m (f.cols + m) (f.cols + m) (basis_value f basis) (at_place turn.0)
       new.tab.rows.items
@@ -189,6 +197,7 @@ module _ {T : Type 0} (value : T → ℕ) (f : Form) (basis : List Status) (j p 
   abbrev after : ℕ → ℕ
   after i = or_first (get_or next.basic i None)
 
+  -- the basic columns, with j set at position p, are those of the stated elimination after column j
   basic_is : new.tab.basic.items ≡ set old.tab.basic.items p j → new.tab.basic.items ≡ made m after
   basic_is e =
       e ∙ ap (λ ks. set ks p j) s.basic
@@ -204,6 +213,7 @@ module _ {T : Type 0} (value : T → ℕ) (f : Form) (basis : List Status) (j p 
       (λ q. get_or-set_other (made m before) p i j 0 q ∙ get_or-made m before i 0 h
       ∙ sym (get_or-made m after i 0 h ∙ ap or_first (get_or-set_other s.now.basic p i (Some j) None q))))
 
+  -- a position is taken after column j just where it has a column in the stated elimination
   taken_is : length old.taken.items ≡ m → new.taken.items ≡ set old.taken.items p true → (i : ℕ) → i < m →
       get_or new.taken.items i false ≡ not (has_none (get_or next.basic i None))
   taken_is l e i h =
@@ -216,6 +226,7 @@ module _ {T : Type 0} (value : T → ℕ) (f : Form) (basis : List Status) (j p 
       (λ q. get_or-set_other old.taken.items p i true false q ∙ s.taken i h
       ∙ sym (ap (λ o. not (has_none o)) (get_or-set_other s.now.basic p i (Some j) None q)))
 
+  -- the costs are 0 still after the rows were turned
   costs_are : (k : ℕ) → k < f.cols + f.rows → number_at value new.tab.costs k ≡ 0ℚ
   costs_are k h =
       turned.reduced k h
@@ -226,7 +237,8 @@ module _ {T : Type 0} (value : T → ℕ) (f : Form) (basis : List Status) (j p 
       none : (a : ℚ) → 0ℚ -ℚ 0ℚ *ℚ a ≡ 0ℚ
       none a = simp ring
 
-  -- what the other parts are is as it was
+  -- where rows were turned for column j at position p, this is noted, and all else is as before, the equations are
+  -- solved for the columns below j + 1
   pub column_solved : new.tab.cols ≡ old.tab.cols → new.tab.status ≡ old.tab.status →
       new.tab.lower ≡ old.tab.lower → new.tab.upper ≡ old.tab.upper → new.tab.fixed ≡ old.tab.fixed →
       new.tab.denominator ≡ old.tab.denominator → new.tab.basic.items ≡ set old.tab.basic.items p j →

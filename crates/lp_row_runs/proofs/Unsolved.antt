@@ -2,7 +2,7 @@
 --
 -- `unsolved_at`: an entry of the stated equations is the start's entry of its row and column.
 -- `rows_more`: one more row that holds equation i makes rows of the first i equations rows of the first i + 1.
--- `zeros_more`: one more number that is 0 makes n zeros n + 1 zeros.
+-- `zeros_more`: where a number that is 0 is pushed onto a list of n zeros, the list is one of n + 1 zeros.
 -- `unsolved_is`: rows of the form's equations, with its bounds and the basis's statuses, are the unsolved equations.
 use Rattle.std.proofs.Common.{◌≡◌, ℕ, zero, suc, map, Option, Some, ◌+◌, ◌*◌, ◌<◌, List, [], ◌∷◌, ◌++◌, length, get_or}
 use Rattle.std.proofs.Common.{replicate, pos, All, refl, sym, ap, subst, ◌∙◌, arith}
@@ -38,6 +38,7 @@ use Rattle.lp_rows.proofs.TableauNumbers.{row_at-one}
 use Rattle.lp_row_runs.specs.Rows.{AreRowsAt, AreZeros, IsUnsolved}
 
 -- ---- one entry
+-- 1 where i is r, else 0
 abbrev one : ℕ → ℕ → ℚ
 one i r = one_at i r 1ℚ
 

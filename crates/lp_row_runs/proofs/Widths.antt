@@ -4,7 +4,8 @@
 -- `then_ends`: a result that ends one run ends every run that is equal to it.
 -- `start_size`: the start of a form has the form's rows and columns.
 -- `whole_ends`: a result that ends both phases from the start of a model's form ends the cold run of the form.
--- `end_stated`: an end of a run that has the certificate in exact fractions is the stated one.
+-- `end_stated`: where the row end of a run, with its numbers left as fractions, is e, the answer of the run is e as an
+--   end, without its rows.
 -- `end_narrow`: a certificate whose numbers all have at most 127 bits has at most 127 bits.
 use Rattle.std.proofs.Common.{◌≡◌, ℕ, List, Option, None, Result, Ok, Err, IfOk, refl, sym}
 use Rattle.std.proofs.Common.{ap, ◌∙◌, subst}
@@ -39,10 +40,12 @@ use Rattle.lp_row_runs.proofs.Ended.{same_at}
 -- ---- what a pause leaves
 module _ {T : Type 0} (value : T → ℕ) (budget : ℕ) (f : Form) (whole : Result PhasesEnd (RunStop ℚ)) where
   module _ {N : Type 0} (of : ℚ → N) where
+    -- where a run pauses as ended with e, the row end of the whole run is e
     pub pause_ended : (s : State T) (p : PhasesPause N) (e : RowEnd N) → p ≡ pause.Ended e →
         PausesWith of value budget f whole s p → row_end_in of whole ≡ Ok e
     pause_ended s p e h k = subst (PausesWith of value budget f whole s) h k
 
+    -- where a run pauses for want of width, what is left of the whole run is the run from the state s
     pub pause_left : (s : State T) (p : PhasesPause N) → p ≡ pause.Narrow → PausesWith of value budget f whole s p →
         IsLeft value budget f whole s
     pause_left s p h k = subst (PausesWith of value budget f whole s) h k

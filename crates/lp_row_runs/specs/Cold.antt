@@ -15,14 +15,15 @@ use Rattle.lp_row_runs.specs.declared.phases.RowEnd.{RowEnd}
 abbrev pub start_run : ℕ → Form → Tableau → Result PhasesEnd (RunStop ℚ)
 start_run budget f t = phase_one None budget t >>= after_one budget f
 
--- where there is an end it is that of the stated run without a limit on numbers, its certificate in a kind of numbers
+-- if there is an end, it is that of the stated run without a limit on numbers, its certificate in a kind of numbers;
+-- where there is none, nothing is asked
 abbrev pub EndsAs : {N : Type 0} → (ℚ → N) → Result PhasesEnd (RunStop ℚ) → Option (RowEnd N) → Type 0
 EndsAs of whole result = IfSome result (λ e. row_end_in of whole ≡ Ok e)
 
--- where there is an end this holds of all numbers of its certificate
+-- if there is an end, `fits` holds of all numbers of its certificate
 abbrev pub IsFitEnd : {N : Type 0} → (N → Type 0) → Option (RowEnd N) → Type 0
 IsFitEnd fits result = IfSome result (λ e. AllFit fits e.certificate)
 
--- an end over rows as an end of the definitions
+-- an end over rows, as the code keeps it, as the definition's end of a run over factors
 abbrev pub over_end : RowEnd ℚ → OverEnd
 over_end e = record { certificate = e.certificate; basis = e.basis; pivots = e.pivots }

@@ -20,12 +20,14 @@ use Rattle.lp_row_runs.specs.declared.phases.RowEnd.{RowEnd}
 use Rattle.lp_row_runs.specs.declared.phases.PhasesPause.{PhasesPause}
 use Rattle.lp_row_runs.specs.declared.phases.PhasesPause.TheVariants.{Ended, Narrow, GaveUp}
 
--- what follows phase one: an infeasible end where an artificial is not 0, else phase two
+-- what follows this end of phase one, with no limit on numbers: an infeasible end where a basic artificial is not 0,
+-- else phase two
 abbrev pub after_one : ℕ → Form → PrimalEnded → Result PhasesEnd (RunStop ℚ)
 after_one budget f one =
     if is_stuck one.tableau then Ok (Infeasible one.tableau one.used) else phase_two None budget f one
 
--- the further steps of phase one and phase two from a tableau, before which `used` pivots and flips were made
+-- what is left of phase one and phase two from a tableau in this phase, before which `used` pivots and flips were made,
+-- with no limit on numbers
 abbrev pub rest_run : ℕ → Form → Phase → ℕ → Tableau → Result PhasesEnd (RunStop ℚ)
 rest_run budget f One used t = steps_from budget used t >>= after_one budget f
 rest_run budget f Between used t = after_one budget f (record { end = Optimal; tableau = t; used = used })
@@ -41,7 +43,7 @@ abbrev pub certificate_in : {N : Type 0} → (ℚ → N) → PhasesEnd → Certi
 certificate_in of (Infeasible t used) = certificate_as of t None
 certificate_in of (Finished e) = certificate_as of e.tableau (Some e.end)
 
--- what the code keeps of an end, with its certificate in a kind of numbers
+-- what the code keeps of an end of both phases: its certificate in a kind of numbers, its basis and its count
 abbrev pub row_end : {N : Type 0} → (ℚ → N) → PhasesEnd → RowEnd N
 row_end of end = record { certificate = certificate_in of end; basis = basis_of end; pivots = pivots_of end }
 
@@ -50,17 +52,18 @@ abbrev pub row_end_in : {N : Type 0} → (ℚ → N) → Result PhasesEnd (RunSt
 row_end_in of (Ok end) = Ok (row_end of end)
 row_end_in of (Err stop) = Err stop
 
--- a cost of each structural and each logical column
+-- the form has a cost for each structural and each logical column
 abbrev pub HasCosts : Form → Type 0
 HasCosts f = length f.cost ≡ f.cols + f.rows
 
--- the rows of a state are whole, and as many as the form has
+-- the state's rows are whole, and it has as many rows and columns as the form
 pub record IsReady {T : Type 0} (value : T → ℕ) (f : Form) (s : State T) : Type 0 where
   pub whole : IsWhole value s.tab
   pub rows : f.rows ≡ height s.tab
   pub cols : f.cols ≡ s.tab.cols
 
--- what is left of the run is the rest of it from a reached tableau that the state's rows show
+-- The whole run comes to the same as the rest of it from this state: from a reached tableau that the state's rows show,
+-- in its phase and after its count of steps.
 pub record IsLeft {T : Type 0} (value : T → ℕ) (budget : ℕ) (f : Form) (whole : Result PhasesEnd (RunStop ℚ))
     (s : State T) : Type 0 where
   pub tableau : Tableau
@@ -69,20 +72,21 @@ pub record IsLeft {T : Type 0} (value : T → ℕ) (budget : ℕ) (f : Form) (wh
   pub same : whole ≡ rest_run budget f s.phase s.used tableau
 
 -- a run over rows stops right: it ends as phase one and two do, or leaves a state from which wider words go on, or it
--- gave up
+-- gave up (the budget or work is spent, or a number is past all words), and then nothing is asked
 abbrev pub PausesWith : {N T : Type 0} → (ℚ → N) → (T → ℕ) → ℕ → Form → Result PhasesEnd (RunStop ℚ) → State T →
     PhasesPause N → Type 0
 PausesWith of value budget f whole s (Ended e) = row_end_in of whole ≡ Ok e
 PausesWith of value budget f whole s Narrow = IsLeft value budget f whole s
 PausesWith of value budget f whole s GaveUp = Unit {0}
 
--- where a run over rows stops to go on in wider words, a run may go on from its state
+-- if a run over rows stops for wider words, a run may go on from its state; of other stops nothing is asked
 abbrev pub StaysReady : {N T : Type 0} → (T → ℕ) → Form → State T → PhasesPause N → Type 0
 StaysReady value f s (Ended e) = Unit {0}
 StaysReady value f s Narrow = IsReady value f s
 StaysReady value f s GaveUp = Unit {0}
 
--- where a run over rows stopped with an end, this property holds of all numbers of the end's certificate
+-- if a run over rows stopped with an end, `fits` holds of all numbers of its certificate;
+-- of other stops nothing is asked
 abbrev pub HasFit : {N : Type 0} → (N → Type 0) → PhasesPause N → Type 0
 HasFit fits (Ended e) = AllFit fits e.certificate
 HasFit fits Narrow = Unit {0}

@@ -24,8 +24,9 @@ use Rattle.lp_row_runs.specs.declared.elimination.Elimination.{Elimination}
 use Rattle.lp_row_runs.specs.declared.elimination.Progress.{Progress}
 use Rattle.lp_row_runs.specs.declared.elimination.Progress.TheVariants.{Done, Narrow, Stopped}
 
--- The rows are those of h equations over n columns. The last number of each, on the further denominator d, is what the
--- first `placed` columns leave at the values x.
+-- The rows have the coefficients of h equations over n columns. The last number of each, over d times its own
+-- denominator, is its value: the negative of the sum of its coefficients in the first `placed` columns, each times the
+-- value x of its column.
 pub record AreRowsAt {T : Type 0} (value : T → ℕ) (d h n placed : ℕ) (x : ℕ → ℚ) (equations : ℕ → ℕ → ℚ)
     (rows : List (Row T)) : Type 0 where
   pub len : length rows ≡ h
@@ -33,13 +34,13 @@ pub record AreRowsAt {T : Type 0} (value : T → ℕ) (d h n placed : ℕ) (x : 
   pub entries : (i k : ℕ) → i < h → k < n → number_in value rows i k ≡ equations i k
   pub values : (i : ℕ) → i < h → row_at value d rows i n ≡ neg_ℚ (sum_below placed (λ k. equations i k *ℚ x k))
 
--- n numbers, each 0 on every denominator
+-- the list has n numbers, each of which is 0
 pub record AreZeros {T : Type 0} (value : T → ℕ) (n : ℕ) (numbers : List (Signed T)) : Type 0 where
   pub len : length numbers ≡ n
   pub each : (d k : ℕ) → 0 < d → k < n → fraction_at value numbers d k ≡ 0ℚ
 
--- what rows of whole numbers hold for a form and a basis, but for the rows themselves and their basic columns; no
--- column has a cost
+-- The tableau has the form's columns, bounds and fixed columns, and the statuses of the basis; each reduced cost is 0.
+-- Of its rows and basic columns nothing is asked.
 pub record HoldsForm {T : Type 0} (value : T → ℕ) (f : Form) (basis : List Status) (r : RowTableau T) : Type 0 where
   pub cols : r.cols ≡ f.cols
   pub costs : (k : ℕ) → k < f.cols + f.rows → number_at value r.costs k ≡ 0ℚ
@@ -48,7 +49,8 @@ pub record HoldsForm {T : Type 0} (value : T → ℕ) (f : Form) (basis : List S
   pub upper : map (bound_of value (value r.denominator)) r.upper.items ≡ basis_upper f
   pub fixed : r.fixed.items ≡ made (f.cols + f.rows) (λ k. is_fixed (form_lower f k) (form_upper f k))
 
--- the form's equations, in which the first `placed` columns have their values
+-- the tableau's rows are the form's equations before any is solved,
+-- with the values of the first `placed` columns counted
 pub record IsUnsolved {T : Type 0} (value : T → ℕ) (f : Form) (basis : List Status) (placed : ℕ) (r : RowTableau T) :
     Type 0 where
   pub whole : IsWhole value r
@@ -57,7 +59,8 @@ pub record IsUnsolved {T : Type 0} (value : T → ℕ) (f : Form) (basis : List 
       (at_place (unsolved f).rows) r.rows.items
   pub basic : r.basic.items ≡ replicate f.rows 0
 
--- the equations, solved for those of the columns below j that are basic
+-- the tableau's rows are the form's equations, solved for those of the columns below j that are basic, as the stated
+-- elimination has them, and `taken` says which positions have a column
 pub record IsSolvedBelow {T : Type 0} (value : T → ℕ) (f : Form) (basis : List Status) (j : ℕ) (e : Elimination T) :
     Type 0 where
   pub now : stated.Elimination
@@ -68,36 +71,36 @@ pub record IsSolvedBelow {T : Type 0} (value : T → ℕ) (f : Form) (basis : Li
   pub basic : e.tab.basic.items ≡ made f.rows (λ i. or_first (get_or now.basic i None))
   pub taken : (i : ℕ) → i < f.rows → get_or e.taken.items i false ≡ not (has_none (get_or now.basic i None))
 
--- the rows are whole, and for each there is whether it has a column
+-- the tableau is whole, and the elimination says for each of its rows whether it has a column
 pub record IsComplete {T : Type 0} (value : T → ℕ) (e : Elimination T) : Type 0 where
   pub whole : IsWhole value e.tab
   pub each : length e.taken.items ≡ length e.tab.rows.items
 
--- where the solving is done, this holds
+-- if the elimination is done, P holds; where it stopped or needs wider words, nothing is asked
 abbrev pub IfDone : Progress → Type 0 → Type 0
 IfDone Done P = P
 IfDone Narrow P = Unit {0}
 IfDone Stopped P = Unit {0}
 
--- the rows show the tableau that the form has for a basis, but for its reduced costs
+-- there is a tableau of the form for the basis, and the integer rows show it, but with 0 as each reduced cost
 pub record ShowsBasis {T : Type 0} (value : T → ℕ) (f : Form) (basis : List Status) (r : RowTableau T) : Type 0 where
   pub tableau : Tableau
   pub starts : start_from None f basis ≡ Ok tableau
   pub shown : Shows value r (with_reduced tableau (replicate (f.cols + f.rows + f.rows) 0ℚ))
 
--- the rows show the tableau that the form has for a basis, with its reduced costs
+-- there is a tableau of the form for the basis, and the integer rows show it, with its reduced costs
 pub record ShowsStart {T : Type 0} (value : T → ℕ) (f : Form) (basis : List Status) (r : RowTableau T) : Type 0 where
   pub tableau : Tableau
   pub starts : start_from None f basis ≡ Ok tableau
   pub shown : Shows value r tableau
 
--- the rows are whole, and as many as the form has
+-- the tableau is whole, and has as many rows and columns as the form
 pub record HasSize {T : Type 0} (value : T → ℕ) (f : Form) (r : RowTableau T) : Type 0 where
   pub whole : IsWhole value r
   pub rows : f.rows ≡ height r
   pub cols : f.cols ≡ r.cols
 
--- where there are rows, this holds of them
+-- if there are rows, P holds of them; where the elimination stopped or needs wider words, nothing is asked
 abbrev pub IfRows : {T : Type 0} → (RowTableau T → Type 0) → Based T → Type 0
 IfRows P (based.Rows r) = P r
 IfRows P based.Narrow = Unit {0}

@@ -15,7 +15,8 @@ use Rattle.lp_row_runs.specs.declared.steps.StepsPause.TheVariants.{Ended, Narro
 abbrev pub steps_from : ℕ → ℕ → Tableau → Result PrimalEnded (RunStop ℚ)
 steps_from budget used t = run_from None (budget - used) used t
 
--- the rows are a reached tableau from which the steps are those from t
+-- The rows show a reached tableau, and the stated steps from it, with the count `now`, come to the same as those from t
+-- with the count `used`.
 pub record ComesTo {T : Type 0} (value : T → ℕ) (budget used : ℕ) (t : Tableau) (r : RowTableau T) (now : ℕ) :
     Type 0 where
   pub tableau : Tableau
@@ -23,7 +24,7 @@ pub record ComesTo {T : Type 0} (value : T → ℕ) (budget used : ℕ) (t : Tab
   pub shown : Shows value r tableau
   pub same : steps_from budget used t ≡ steps_from budget now tableau
 
--- the rows are the reached tableau that the steps from t end with
+-- the stated steps from t, with the count `used`, end so, with the count `now`, at a reached tableau that the rows show
 pub record EndsAt {T : Type 0} (value : T → ℕ) (budget used : ℕ) (t : Tableau) (r : RowTableau T) (now : ℕ)
     (end : PrimalEnd) : Type 0 where
   pub tableau : Tableau
@@ -31,13 +32,14 @@ pub record EndsAt {T : Type 0} (value : T → ℕ) (budget used : ℕ) (t : Tabl
   pub shown : Shows value r tableau
   pub ends : steps_from budget used t ≡ Ok (record { end = end; tableau = tableau; used = now })
 
--- steps over rows stop right, with these rows and this count: at an end, where a number is past the width, or giving up
+-- Steps over rows from t stopped right, with the rows r and the count `now`: at the end of the stated steps, or, where
+-- a number was past the width, at a tableau on their way. Where they gave up, nothing is asked.
 abbrev pub PausesAt : {T : Type 0} → (T → ℕ) → ℕ → ℕ → Tableau → RowTableau T → ℕ → StepsPause → Type 0
 PausesAt value budget used t r now (Ended end) = EndsAt value budget used t r now end
 PausesAt value budget used t r now Narrow = ComesTo value budget used t r now
 PausesAt value budget used t r now GaveUp = Unit {0}
 
--- rows that are whole, and as many as before
+-- the tableau s is whole, and has as many rows and columns as r
 pub record Keeps {T : Type 0} (value : T → ℕ) (r s : RowTableau T) : Type 0 where
   pub whole : IsWhole value s
   pub rows : height s ≡ height r

@@ -16,7 +16,7 @@ use Rattle.lp_row_runs.specs.declared.phases.RowEnd.{RowEnd}
 use Rattle.lp_row_runs.specs.declared.start.Begun.{Begun}
 use Rattle.lp_row_runs.specs.declared.start.Begun.TheVariants.{Ready, Narrow, Stopped}
 
--- the end is that of the stated run from a basis, with no limit on numbers
+-- the end has the certificate, the basis and the count of the stated run from a basis, with no limit on numbers
 pub record EndsFromBasis (budget : ℕ) (f : Form) (from : List Status) (e : RowEnd ℚ) : Type 0 where
   pub end : WarmEnd
   pub run : warm_run None budget f from ≡ Ok end
@@ -24,7 +24,8 @@ pub record EndsFromBasis (budget : ℕ) (f : Form) (from : List Status) (e : Row
   pub basis : e.basis ≡ warm_basis end
   pub pivots : e.pivots ≡ warm_pivots end
 
--- the run begins with the tableau of the basis, which is primal feasible
+-- the state is at the beginning of phase two, after no step, and its rows show the tableau of the basis,
+-- which is primal feasible
 pub record StandsAtBasis {T : Type 0} (value : T → ℕ) (f : Form) (basis : List Status) (s : State T) : Type 0 where
   pub tableau : Tableau
   pub starts : start_from None f basis ≡ Ok tableau
@@ -34,13 +35,13 @@ pub record StandsAtBasis {T : Type 0} (value : T → ℕ) (f : Form) (basis : Li
   pub phase : s.phase ≡ Two
   pub used : s.used ≡ 0
 
--- where the run begins, it begins with the primal feasible tableau of the basis
+-- if the run begins, it is with the primal feasible tableau of the basis; where it stops before that, nothing is asked
 abbrev pub BeginsAtBasis : {T : Type 0} → (T → ℕ) → Form → List Status → Begun T → Type 0
 BeginsAtBasis value f basis (Ready s) = StandsAtBasis value f basis s
 BeginsAtBasis value f basis Narrow = Unit {0}
 BeginsAtBasis value f basis Stopped = Unit {0}
 
--- where the run begins, its state is ready
+-- if the run begins, its rows are whole and have the form's size; where it stops before that, nothing is asked
 abbrev pub BeginsReady : {T : Type 0} → (T → ℕ) → Form → Begun T → Type 0
 BeginsReady value f (Ready s) = IsReady value f s
 BeginsReady value f Narrow = Unit {0}

@@ -23,7 +23,7 @@ pub(crate) enum Based<T: Words> {
     Stopped,
 }
 
-// For each position that it has no basic column yet.
+// A list that says of each position that it has no basic column yet.
 fn none_taken(alloc: Global, form: &Form) -> Result<Vec<bool>, AllocError>
     ensures { IfOk result (λ v. v.items ≡ replicate form.now.rows false) }
 {
@@ -53,7 +53,7 @@ fn begun<T: Words>(
 }
 
 // The rows of the basis: the form's equations solved for the basic columns, still without reduced costs. Takes its work
-// off `work`.
+// off `work`. `Narrow` where a number is past the width; `Stopped` where the basis is singular or the work is spent.
 fn solved<T: Words>(
     alloc: Global,
     form: &Form,
@@ -79,7 +79,7 @@ fn solved<T: Words>(
     }
 }
 
-// The rows of a basis, with the reduced costs that the form gives them.
+// The rows of a basis, with the reduced costs that the form gives them. `Narrow` where one of these is past the width.
 fn with_costs<T: Words>(
     alloc: Global,
     form: &Form,
@@ -102,7 +102,7 @@ fn with_costs<T: Words>(
 }
 
 /// The rows of the tableau that the form has for a basis: its equations solved for the basic columns, with their values
-/// and the reduced costs. Takes its work off `work`.
+/// and the reduced costs. Takes its work off `work`. `Narrow` and `Stopped` say why there are none.
 pub(crate) fn from_basis<T: Words>(
     alloc: Global,
     form: &Form,

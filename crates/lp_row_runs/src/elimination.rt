@@ -43,7 +43,7 @@ fn none<T: Words>() -> Signed<T>
 }
 
 impl<T: Words> Elimination<T> {
-    // Whether row `i` has no entry in column `j`.
+    // Whether the entry of row `i` in column `j` is 0.
     fn has_none(&self, j: usize, i: usize) -> bool
         requires complete { IsComplete T.value self.now }
         requires column { j < width self.now.tab }
@@ -67,7 +67,7 @@ impl<T: Words> Elimination<T> {
         !self.has_none(j, i)
     }
 
-    // The least position that is open for column `j`.
+    // The least position that has no column yet and whose entry in column `j` is not 0; none if there is none.
     fn open(&self, j: usize) -> Option<usize>
         requires complete { IsComplete T.value self.now }
         requires column { j < width self.now.tab }
@@ -121,7 +121,8 @@ impl<T: Words> Elimination<T> {
         true
     }
 
-    // Solves the equations for column `j` at the least position that is open for it.
+    // Solves the equations for column `j` at the least position that is open for it. `Stopped` where none is, or the
+    // work is spent; `Narrow` where a number is past the width.
     fn solve(&mut self, j: usize, work: &mut u64) -> Progress
         requires complete { IsComplete T.value self.old }
         requires column { j < width self.old.tab }
@@ -148,7 +149,8 @@ impl<T: Words> Elimination<T> {
         }
     }
 
-    // Solves the equations for column `j` if it is basic; another column changes nothing.
+    // Solves the equations for column `j` if it is basic, with what comes of that. Another column changes nothing, and
+    // is `Done`.
     fn take(&mut self, basis: &[Status], j: usize, work: &mut u64) -> Progress
         requires complete { IsComplete T.value self.old }
         requires all { length basis.now ≡ width self.old.tab }
@@ -166,7 +168,8 @@ impl<T: Words> Elimination<T> {
     }
 
     /// Solves the equations for the basic columns in order, each at the least position that has no column and where its
-    /// entry is not 0.
+    /// entry is not 0. `Stopped` where a column has no such position, or the work is spent; `Narrow` where a number is
+    /// past the width.
     pub(crate) fn run(&mut self, basis: &[Status], work: &mut u64) -> Progress
         requires complete { IsComplete T.value self.old }
         requires all { length basis.now ≡ width self.old.tab }

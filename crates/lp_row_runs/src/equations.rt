@@ -26,7 +26,8 @@ use std::alloc::{AllocError, Global};
 
 // ---- rows
 
-// The entry of a structural or logical column in the equation of row `i`, which is its logical less the row's sum.
+// The entry of column `k` in the equation of row `i`, which is its logical less the row's sum: the negated coefficient
+// of a structural column, 1 for the row's logical, and 0 for other logicals.
 fn entry(form: &Form, i: u32, k: u32) -> Frac
     requires row { i < form.now.rows }
     requires column { k < form.now.cols + form.now.rows }
@@ -167,7 +168,8 @@ pub(crate) fn unsolved<T: Words>(
     }
 }
 
-// The form's equations with the statuses of a basis, and with these bounds on the common denominator `denominator`.
+// The form's equations with the statuses of a basis, and with these bounds on the common denominator `denominator`;
+// nothing where a number is past the width.
 fn unsolved_on<T: Words>(
     alloc: Global,
     form: &Form,

@@ -16,7 +16,8 @@ use lp_rows::order;
 use lp_rows::tableau::RowTableau;
 use std::cmp::Ordering;
 
-// Whether a value is not below a lower bound: the value is on the row's denominator times that of the bound.
+// Whether a value is not below a lower bound, true where there is none. The value is on the row's denominator times
+// that of the bound.
 fn is_from<T: Words>(lower: Option<Signed<T>>, value: Signed<T>, denominator: T) -> bool
     requires { 0 < T.value denominator }
     ensures { IsTrue result → (d : ℕ) → 0 < d → IfSome (bound_of T.value d lower)
@@ -31,7 +32,8 @@ fn is_from<T: Words>(lower: Option<Signed<T>>, value: Signed<T>, denominator: T)
     }
 }
 
-// Whether a value is not above an upper bound: the value is on the row's denominator times that of the bound.
+// Whether a value is not above an upper bound, true where there is none. The value is on the row's denominator times
+// that of the bound.
 fn is_up_to<T: Words>(upper: Option<Signed<T>>, value: Signed<T>, denominator: T) -> bool
     requires { 0 < T.value denominator }
     ensures { IsTrue result → (d : ℕ) → 0 < d → IfSome (bound_of T.value d upper)
@@ -46,7 +48,8 @@ fn is_up_to<T: Words>(upper: Option<Signed<T>>, value: Signed<T>, denominator: T
     }
 }
 
-// Whether a value is within both bounds: the value is on the row's denominator times that of the bounds.
+// Whether a value is within both bounds, of which each may be absent. The value is on the row's denominator times that
+// of the bounds.
 fn is_between<T: Words>(
     lower: Option<Signed<T>>,
     upper: Option<Signed<T>>,

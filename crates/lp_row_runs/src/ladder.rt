@@ -52,7 +52,8 @@ pub(crate) trait Widths {
             IfOk result (EndsAs N.of (rest_run budget form.now state.now.phase state.now.used t)) }
         ensures fits { IfOk result (IsFitEnd N.fits) };
 
-    /// The run from the start of a form, in the first of these words that the start fits.
+    /// The run from the start `tab` of a form, in the first of these words that the start fits, and in wider ones where
+    /// a number does not fit. There is no end where no words are wide enough, or the run gives up.
     fn run_cold<N: Listed>(
         alloc: Global,
         form: &Form,
@@ -66,7 +67,9 @@ pub(crate) trait Widths {
             IfOk result (EndsAs N.of (start_run budget form.now tab.now)) }
         ensures fits { IfOk result (IsFitEnd N.fits) };
 
-    /// The run from a basis, in the first of these words in which the equations can be solved.
+    /// The run from a basis, in the first of these words in which the equations can be solved, and in wider ones where
+    /// a number of a step does not fit. There is no end where no words are wide enough, where the basis is singular or
+    /// not primal feasible, or where the run gives up.
     fn run_warm(
         alloc: Global,
         form: &Form,
@@ -82,7 +85,7 @@ pub(crate) trait Widths {
 impl Widths for NoMore {
     const ANY: bool = false;
 
-    // There are no words left to go on in.
+    // Gives no end: there are no words left to go on in.
     fn resume<S: Words, N: Listed>(
         _alloc: Global,
         _form: &Form,
@@ -92,7 +95,7 @@ impl Widths for NoMore {
         Ok(None)
     }
 
-    // There are no words that the start might fit.
+    // Gives no end: there are no words that the start might fit.
     fn run_cold<N: Listed>(
         _alloc: Global,
         _form: &Form,
@@ -103,7 +106,7 @@ impl Widths for NoMore {
         Ok(None)
     }
 
-    // There are no words in which the equations might be solved.
+    // Gives no end: there are no words in which the equations might be solved.
     fn run_warm(
         _alloc: Global,
         _form: &Form,
@@ -136,7 +139,8 @@ impl<T: Words, W: Widths> Widths for Then<T, W> {
         }
     }
 
-    // Runs from the start in the words `T` if it fits them, and else in wider ones.
+    // Runs from the start in the words `T` if the start fits them, and goes on in wider ones where a number does not.
+    // If the start does not fit, runs from it in wider words.
     fn run_cold<N: Listed>(
         alloc: Global,
         form: &Form,
@@ -154,7 +158,8 @@ impl<T: Words, W: Widths> Widths for Then<T, W> {
         }
     }
 
-    // Runs from the basis in the words `T` if the equations can be solved in them, and else in wider ones.
+    // Runs from the basis in the words `T` if the equations can be solved in them. If a number is past their width,
+    // solves them anew in wider words. There is no end where the basis is singular or not primal feasible.
     fn run_warm(
         alloc: Global,
         form: &Form,
@@ -175,6 +180,7 @@ impl<T: Words, W: Widths> Widths for Then<T, W> {
 }
 
 // Goes on with both phases from `state`. Where a number does not fit, they go on in the wider words, if there are any.
+// Gives their end; none where they give up or no words are wide enough.
 fn run<T: Words, W: Widths, N: Listed>(
     alloc: Global,
     form: &Form,

@@ -58,7 +58,7 @@ pub(crate) enum PhasesPause<N> {
 }
 
 // What the run ends with: the certificate and the basis of `end`. Without an end of phase two the model is infeasible:
-// phase one left an artificial that is not 0.
+// phase one left an artificial that is not 0. It gives up where a number of the certificate is past its kind.
 fn ended<T: Words, N: Listed>(
     alloc: Global,
     state: &State<T>,
@@ -113,7 +113,8 @@ fn second<T: Words, N: Listed>(
     }
 }
 
-// Goes on from the end of phase one: where an artificial is not 0 the model is infeasible, else phase two begins.
+// Goes on from the end of phase one: where a basic artificial is not 0 the model is infeasible, else phase two begins.
+// `Narrow` where a reduced cost that it begins with is past the width.
 fn between<T: Words, N: Listed>(
     alloc: Global,
     form: &Form,

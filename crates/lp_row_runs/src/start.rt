@@ -19,7 +19,8 @@ use lp_rows::tableau::{RowTableau, from_tableau, wants_phase_one};
 use lp_tableau::Tableau;
 use std::alloc::{AllocError, Global};
 
-/// The state of the tableau that a form begins with. There is none where a number is past the width.
+/// The state of a run at the tableau that a form begins with: in phase one where an artificial column is basic, and
+/// else between the phases. There is none where a number is past the width.
 pub(crate) fn at_start<T: Words>(
     alloc: Global,
     tab: &Tableau,
@@ -58,7 +59,7 @@ pub(crate) enum Begun<T: Words> {
     Stopped,
 }
 
-// The state of phase two at these rows, if the basic values are within their bounds.
+// The state of phase two at these rows, if each basic value is within its bounds; else `Stopped`.
 fn if_fit<T: Words>(tab: RowTableau<T>, work: u64) -> Begun<T>
     requires { IsWhole T.value tab }
     ensures run { (f : forms) (basis : List statuses) → IsProper f → IsBasisOf f basis → HasCosts f →
@@ -77,7 +78,8 @@ fn if_fit<T: Words>(tab: RowTableau<T>, work: u64) -> Begun<T>
     }
 }
 
-/// The state of phase two at the tableau of a basis.
+/// The state of phase two at the tableau of a basis. `Narrow` where a number is past the width; `Stopped` where the
+/// basis is singular or not primal feasible, or the work is spent.
 pub(crate) fn at_basis<T: Words>(
     alloc: Global,
     form: &Form,

@@ -18,7 +18,8 @@ pub(crate) enum StepsPause {
     GaveUp,
 }
 
-// Whether the step is left to wider words, since a number of it may be past the width.
+// Whether the step is left to wider words, since a number of it may be past the width. Never where there are no wider
+// words.
 fn is_too_narrow<T: Words>(tab: &RowTableau<T>, step: Step, may_widen: bool) -> bool
     requires whole { IsWhole T.value tab.now }
     requires inside { MayMake tab.now step }
@@ -41,8 +42,9 @@ pub(crate) fn spend(work: &mut u64, takes: u64) -> bool {
     }
 }
 
-/// Takes steps until no column may enter or nothing stops the column that enters (`Ended`), a number is past the width
-/// (`Narrow`, where there are wider words), or as many were made as the budget or the work has. `used` counts them.
+/// Takes steps until no column may enter or nothing stops the column that enters (`Ended`), or a number is or may be
+/// past the width (`Narrow`). Where the budget or the work is spent, or a number of a step is past the widest words, it
+/// gives up (`GaveUp`). `used` counts the steps, with those before.
 pub(crate) fn run<T: Words>(
     tab: &mut RowTableau<T>,
     used: &mut u64,
