@@ -14,7 +14,7 @@ use crate::field::Field;
 use crate::lines::{Entry, Lines, at, turned};
 use std::alloc::{AllocError, Global};
 
-/// The factors of a square matrix.
+/// The factors of a square matrix by elimination: a pivot for each step, and the lower and the upper factor.
 pub struct Factors<F: Field> {
     /// The row and the column of each pivot, in the order of the steps, and what makes 1 with it.
     pub(crate) rows: Vec<usize>,
@@ -44,7 +44,7 @@ impl<F: Field> Factors<F> {
         }
     }
 
-    // Turns both factors, once all steps are noted.
+    // Makes the transposed lines of both factors, once all steps are noted.
     fn turn(&mut self, alloc: Global) -> Result<(), AllocError> {
         let len = self.rows.len();
         self.lower_turned = turned(alloc, &self.lower, &self.rows, len, F::zero())?;
@@ -74,7 +74,7 @@ impl<F: Field> Drop for Factors<F> {
     }
 }
 
-/// What a matrix comes to.
+/// What the factoring of a matrix comes to.
 pub enum Factored<F: Field> {
     /// It is square, and each row and column has a pivot.
     Regular(Factors<F>),
@@ -111,7 +111,7 @@ impl<F: Field> Factored<F> {
     }
 }
 
-// Takes a multiple of a line off numbers.
+// Subtracts `times` times the numbers of a line from the numbers at their places in a list.
 #[inline(always)]
 fn take_off<F: Field>(numbers: &mut [F], line: &[Entry<F>], times: F) {
     for entry in line {
@@ -130,7 +130,7 @@ fn value_at<F: Field>(numbers: &[F], k: usize) -> F {
     }
 }
 
-// Sets the number at place `k` of a list.
+// Sets the number at place `k` of a list, if the list is that long.
 #[inline(always)]
 fn put_value<F: Field>(numbers: &mut [F], k: usize, value: F) {
     if let Some(number) = numbers.get_mut(k) {
@@ -139,7 +139,8 @@ fn put_value<F: Field>(numbers: &mut [F], k: usize, value: F) {
 }
 
 impl<F: Field> Factors<F> {
-    // From right sides to what the upper factor takes, both by row.
+    // Solves the lower factor's equations in place: the right sides become those of the upper factor's equations. Both
+    // stand by row.
     fn through_lower(&self, right: &mut [F]) {
         for (k, row) in self.rows.iter().enumerate() {
             let number = value_at(right, *row);
@@ -149,7 +150,7 @@ impl<F: Field> Factors<F> {
         }
     }
 
-    // The solution of the upper factor's equations, whose right sides are used up.
+    // Solves the upper factor's equations. The right sides stand by row and are used up. The solution stands by column.
     fn through_upper(&self, right: &mut [F], solution: &mut [F]) {
         for k in (0..self.rows.len()).rev() {
             let mut number = value_at(right, at(&self.rows, k));
@@ -169,7 +170,8 @@ impl<F: Field> Factors<F> {
         self.through_upper(right, solution);
     }
 
-    // The solution of the transposed upper factor's equations, whose right sides are used up.
+    // Solves the transposed upper factor's equations. The right sides stand by column and are used up. The solution
+    // stands by row.
     fn through_upper_turned(&self, right: &mut [F], solution: &mut [F]) {
         for (k, column) in self.columns.iter().enumerate() {
             let mut number = value_at(right, *column);
@@ -181,7 +183,8 @@ impl<F: Field> Factors<F> {
         }
     }
 
-    // From there to the solution of the transposed matrix's, in place.
+    // Solves the transposed lower factor's equations, in place: what `through_upper_turned` made becomes the solution
+    // of the transposed matrix's equations.
     fn through_lower_turned(&self, solution: &mut [F]) {
         for row in self.rows.iter().rev() {
             let number = value_at(solution, *row);
@@ -199,7 +202,7 @@ impl<F: Field> Factors<F> {
     }
 }
 
-// Notes the steps of an elimination, until there is no pivot.
+// Eliminates with one pivot after the other, and notes each step in the factors, until there is no further pivot.
 fn eliminate_all<F: Field>(
     alloc: Global,
     active: &mut Active<F>,
@@ -216,7 +219,7 @@ fn eliminate_all<F: Field>(
     Ok(())
 }
 
-// The rows, or the columns, that have no pivot.
+// The rows or columns from 0 to `len - 1` that still are in the buckets: those that have had no pivot.
 fn left(alloc: Global, buckets: &Buckets, len: usize) -> Result<Vec<usize>, AllocError> {
     let mut list = Vec::new(alloc);
     for k in 0..len {
@@ -234,7 +237,8 @@ fn singular<F: Field>(alloc: Global, active: &Active<F>) -> Result<Factored<F>, 
     Ok(Factored::Singular { rows, columns })
 }
 
-// Factors a matrix. Whether each row and column has a pivot.
+// Eliminates all that it can of a matrix, and notes the steps. Says whether each row and column has had a pivot; if so,
+// the transposed lines are made too.
 fn has_factors<F: Field>(
     alloc: Global,
     active: &mut Active<F>,
@@ -249,8 +253,9 @@ fn has_factors<F: Field>(
     Ok(true)
 }
 
-/// The factors of the matrix with so many rows and these columns, or a largest regular part of it. The numbers of the columns
-/// are not 0, and a row has one number at most in a column.
+/// The factors of the matrix with so many rows and these columns; or, where it is not regular, the rows and columns
+/// that a regular part leaves out, in exact arithmetic a largest one. The numbers of the columns are not 0, and a row
+/// has one number at most in a column.
 pub fn factorize<F: Field>(
     alloc: Global,
     rows: usize,

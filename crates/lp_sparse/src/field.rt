@@ -8,16 +8,17 @@ pub trait Field: Copy {
     /// Whether it is 0, and no number that is only near it.
     fn is_zero(self) -> bool;
 
-    /// The product of both.
+    /// The product of the two numbers.
     fn times(self, other: Self) -> Self;
 
     /// `self - a b`
     fn less_product(self, a: Self, b: Self) -> Self;
 
-    /// What makes 1 with a number that is not 0.
+    /// The inverse of a number that is not 0.
     fn inverse(self) -> Self;
 
-    /// Whether each number but 0 is as good a pivot as any other. Where it is not, the next two decide.
+    /// Whether each number but 0 is as good a pivot as any other, as in exact arithmetic. Where it is not, `magnitude`
+    /// and `is_negligible` decide.
     fn is_exact() -> bool;
 
     /// How large it is, for a choice among pivots.
@@ -52,7 +53,7 @@ impl Field for f64 {
         self - a * b
     }
 
-    // The quotient of 1 by it, rounded: infinite for 0.
+    // The quotient of 1 by the number, rounded: infinite for 0.
     #[inline(always)]
     fn inverse(self) -> Self {
         1.0 / self

@@ -8,7 +8,7 @@ pub struct Entry<T> {
     pub value: T,
 }
 
-/// Lines of numbers: rows or columns of a matrix.
+/// Lines of numbers other than 0, each with its place in its line: rows or columns of a sparse matrix.
 pub struct Lines<T: Copy> {
     ends: Vec<usize>,
     entries: Vec<Entry<T>>,
@@ -76,7 +76,7 @@ impl<T: Copy> Lines<T> {
         if k == 0 { 0 } else { at(&self.ends, k - 1) }
     }
 
-    /// The numbers of a line.
+    /// The numbers of line `k`, with their places; none where there is no such line.
     #[inline(always)]
     pub fn line(&self, k: usize) -> &[Entry<T>] {
         match self.entries.get(self.start(k)..at(&self.ends, k)) {
@@ -86,7 +86,7 @@ impl<T: Copy> Lines<T> {
     }
 }
 
-// How many numbers each place has.
+// How many numbers of all lines stand at each place.
 fn counts<T: Copy>(
     alloc: Global,
     lines: &Lines<T>,
@@ -100,7 +100,7 @@ fn counts<T: Copy>(
     Ok(list)
 }
 
-// Where the line of each place begins, in place of its count.
+// Replaces the count of each place by the sum of the counts before it, which is where the place's line begins.
 fn begin(counts: &mut [usize]) {
     let mut next = 0usize;
     for count in counts.iter_mut() {
@@ -124,7 +124,7 @@ fn spread<T: Copy>(line: &[Entry<T>], name: usize, ends: &mut [usize], entries: 
     }
 }
 
-/// The numbers from 0 on: the names of lines that are named as they stand.
+/// The numbers from 0 to `len - 1`: the names of so many lines that are named as they stand.
 pub fn numbered(alloc: Global, len: usize) -> Result<Vec<usize>, AllocError> {
     let mut list = Vec::with_capacity(alloc, len)?;
     for k in 0..len {
@@ -133,8 +133,8 @@ pub fn numbered(alloc: Global, len: usize) -> Result<Vec<usize>, AllocError> {
     Ok(list)
 }
 
-/// The lines of the places: the numbers of each line stand in them under the line's name. The zero is for
-/// places that are not filled.
+/// The transposed lines, one for each of so many places: a number at a place of line `k` stands in the place's line,
+/// under the name of line `k`. The zero fills the list before the numbers are put in.
 pub fn turned<T: Copy>(
     alloc: Global,
     lines: &Lines<T>,

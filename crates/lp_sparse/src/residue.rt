@@ -7,12 +7,13 @@ pub const PRIME: u64 = 4611686018427387847;
 // By so much the prime is below 2^62.
 const SHORT: u128 = 57;
 
-// The low 62 bits, and the low 64.
+// The low 62 bits of a number.
 const LOW: u128 = 0x3fff_ffff_ffff_ffff;
 
+// The low 64 bits of a number.
 const WORD: u128 = 0xffff_ffff_ffff_ffff;
 
-// By Fermat's little theorem a number to the power of this is its inverse.
+// The prime less 2: by Fermat's little theorem a residue to the power of this is its inverse.
 const INVERTING: u64 = 4611686018427387845;
 
 /// A residue modulo the prime.
@@ -21,13 +22,13 @@ pub struct Residue {
     word: u64,
 }
 
-// The residue of a number, or the prime more.
+// A number with the same residue, smaller from 2^62 on: 57 takes the place of 2^62.
 #[inline(always)]
 fn folded(n: u128) -> u128 {
     (n >> 62).wrapping_mul(SHORT).wrapping_add(n & LOW)
 }
 
-/// The residue of a number below 2^125.
+/// The residue of a number below 2^125, as a word below the prime.
 #[inline(always)]
 pub(crate) fn reduced(n: u128) -> u64 {
     let word = (folded(folded(n)) & WORD) as u64;
@@ -43,7 +44,7 @@ impl Residue {
         }
     }
 
-    /// The residue of a number with a sign.
+    /// The residue of a number of 127 bits with a sign.
     #[inline(always)]
     pub fn of(n: i128) -> Self {
         let size = reduced(folded(n.unsigned_abs()));
@@ -56,7 +57,7 @@ impl Residue {
         }
     }
 
-    /// The least natural number that has it.
+    /// The least natural number that has this residue.
     #[inline(always)]
     pub fn word(self) -> u64 {
         self.word
@@ -68,7 +69,7 @@ fn times_if(a: Residue, b: Residue, is_taken: bool) -> Residue {
     if is_taken { a.times(b) } else { a }
 }
 
-// The number to the power of one less than two less than the prime.
+// The inverse of a residue, as its power with the exponent `PRIME - 2`. It is 0 for 0.
 fn inverted(a: Residue) -> Residue {
     let mut power = a;
     let mut result = Residue { word: 1 };

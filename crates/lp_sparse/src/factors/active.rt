@@ -46,7 +46,7 @@ fn put_rows<F: Field>(
     Ok(())
 }
 
-// Adds the numbers of a column to their rows, and gives the list of these rows.
+// Adds the numbers of the column `name` to their rows, and gives the list of these rows.
 fn spread<F: Field>(
     alloc: Global,
     rows: &mut [Vec<Entry<F>>],
@@ -66,14 +66,14 @@ fn spread<F: Field>(
     Ok(places)
 }
 
-// Notes how many numbers each row or each column has.
+// Puts each row or each column into the bucket of how many numbers it has.
 fn count<T>(buckets: &mut Buckets, lists: &[Vec<T>]) {
     for (k, list) in lists.iter().enumerate() {
         buckets.insert(k, list.len());
     }
 }
 
-/// A whole matrix with so many rows and these columns.
+/// The matrix with so many rows and these columns, before the first pivot.
 pub(crate) fn active_of<F: Field>(
     alloc: Global,
     rows: usize,
@@ -92,7 +92,7 @@ pub(crate) fn active_of<F: Field>(
 }
 
 impl<F: Field> Active<F> {
-    // Puts so many rows and the numbers of these columns in.
+    // Adds so many empty rows, and puts the numbers of these columns into them.
     fn put_columns(
         &mut self,
         alloc: Global,
@@ -117,7 +117,7 @@ impl<F: Field> Active<F> {
         Ok(())
     }
 
-    /// Takes the numbers of a row out.
+    /// Takes the numbers of row `i` out, and gives them. The row is empty then.
     pub(crate) fn take_row(&mut self, alloc: Global, i: usize) -> Vec<Entry<F>> {
         match self.rows.get_mut(i) {
             Some(row) => mem::replace(row, Vec::new(alloc)),
@@ -132,7 +132,7 @@ impl<F: Field> Active<F> {
         }
     }
 
-    /// Takes the rows of a column out.
+    /// Takes the list of the rows of column `j` out, and gives it. The column's list is empty then.
     pub(crate) fn take_column(&mut self, alloc: Global, j: usize) -> Vec<usize> {
         match self.columns.get_mut(j) {
             Some(column) => mem::replace(column, Vec::new(alloc)),
@@ -140,7 +140,7 @@ impl<F: Field> Active<F> {
         }
     }
 
-    /// The numbers of a row.
+    /// The numbers of row `i`; none where there is no such row, or they were taken out.
     #[inline(always)]
     pub(crate) fn row(&self, i: usize) -> &[Entry<F>] {
         match self.rows.get(i) {
@@ -149,7 +149,7 @@ impl<F: Field> Active<F> {
         }
     }
 
-    /// The rows of a column, with some that have had their pivot.
+    /// The rows in which column `j` has a number, and some that have had their pivot.
     #[inline(always)]
     pub(crate) fn column(&self, j: usize) -> &[usize] {
         match self.columns.get(j) {

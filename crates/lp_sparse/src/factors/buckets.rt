@@ -48,23 +48,23 @@ impl Buckets {
         Ok(())
     }
 
-    /// The first one with this count.
+    /// The first row or column with this count; none if no one has it.
     pub(crate) fn first(&self, count: usize) -> Option<usize> {
         some(self.firsts.get(count))
     }
 
-    /// The one after `k` in its list.
+    /// The row or column after `k` in its list; none if `k` is the last.
     pub(crate) fn after(&self, k: usize) -> Option<usize> {
         some(self.nexts.get(k))
     }
 
-    /// Whether it is in a list.
+    /// Whether row or column `k`, which is one of those that there is room for, is in the list of any count.
     #[inline(always)]
     pub(crate) fn has(&self, k: usize) -> bool {
         at(&self.counts, k) != NONE
     }
 
-    /// The count of one that is in a list.
+    /// The count of row or column `k`, which is in the list of that count.
     #[inline(always)]
     pub(crate) fn count(&self, k: usize) -> usize {
         at(&self.counts, k)
@@ -83,7 +83,7 @@ impl Buckets {
         put(&mut self.counts, k, count);
     }
 
-    /// Takes one out of its list.
+    /// Takes `k` out of the list that it is in.
     pub(crate) fn remove(&mut self, k: usize) {
         let next = at(&self.nexts, k);
         let before = at(&self.previous, k);
@@ -104,7 +104,7 @@ impl Buckets {
     }
 }
 
-// What stands there, if it is one.
+// The row or column at the end of a link; none where the link is `NONE` or absent.
 fn some(place: Option<&usize>) -> Option<usize> {
     match place {
         Some(k) if *k != NONE => Some(*k),

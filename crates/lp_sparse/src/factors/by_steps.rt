@@ -7,7 +7,7 @@ use crate::field::Field;
 use crate::lines::{Entry, Lines, at, numbered, put, turned};
 use std::alloc::{AllocError, Global};
 
-// One part in so many is many.
+// Where more than one step in so many is marked, all steps are gone over.
 const MANY: usize = 8;
 
 /// Numbers most of which are 0, and the places of the others.
@@ -26,7 +26,7 @@ impl<F: Field> Drop for Sparse<F> {
 }
 
 impl<F: Field> Sparse<F> {
-    /// So many zeros.
+    /// A list of `len` zeros, of which no place is noted.
     pub fn new(alloc: Global, len: usize) -> Result<Self, AllocError> {
         Ok(Sparse {
             numbers: Vec::from_elem(alloc, F::zero(), len)?,
@@ -34,7 +34,7 @@ impl<F: Field> Sparse<F> {
         })
     }
 
-    /// Sets all numbers of the list to 0.
+    /// Sets all numbers of the list to 0, and forgets the noted places.
     pub fn clear(&mut self) {
         for k in &self.places {
             put_value(&mut self.numbers, *k, F::zero());
@@ -48,7 +48,7 @@ impl<F: Field> Sparse<F> {
         self.places.len() >= self.numbers.len()
     }
 
-    // Notes all places of the list as ones that may have a number other than 0.
+    // Notes all places of the list, whether their numbers are 0 or not.
     fn note_all(&mut self) -> Result<(), AllocError> {
         self.places.clear();
         for k in 0..self.numbers.len() {
@@ -57,7 +57,7 @@ impl<F: Field> Sparse<F> {
         Ok(())
     }
 
-    // Sets the number at a place that has none, and notes the place.
+    // Sets the number at a place that is not noted yet, and notes the place.
     #[inline(always)]
     fn put(&mut self, k: usize, number: F) -> Result<(), AllocError> {
         self.places.push(k)?;
@@ -86,7 +86,7 @@ impl<F: Field> Drop for Marked<F> {
 }
 
 impl<F: Field> Marked<F> {
-    /// Room for so many steps.
+    /// Room for `len` steps: each number is 0, and no step is marked.
     pub fn new(alloc: Global, len: usize) -> Result<Self, AllocError> {
         Ok(Marked {
             numbers: Vec::from_elem(alloc, F::zero(), len)?,
@@ -95,7 +95,7 @@ impl<F: Field> Marked<F> {
         })
     }
 
-    // The bits that say which of 64 steps are to be gone over.
+    // The bits of the 64 steps from step `64 w` on: 1 for each that is to be gone over.
     #[inline(always)]
     fn word(&self, w: usize) -> u64 {
         match self.marks.get(w) {
@@ -118,7 +118,8 @@ impl<F: Field> Marked<F> {
         }
     }
 
-    // Subtracts a multiple of a line, and notes the steps whose numbers were 0 as ones to be gone over.
+    // Subtracts a multiple of a line from the numbers by step. A step whose number was 0 before is noted as one to be
+    // gone over.
     #[inline(always)]
     fn take_off(&mut self, line: &[Entry<F>], times: F) {
         for entry in line {
@@ -132,7 +133,8 @@ impl<F: Field> Marked<F> {
         }
     }
 
-    // Moves the numbers of a right side to the steps of their places, which are noted as ones to be gone over.
+    // Moves the numbers of a right side to the steps of their places, which are noted as ones to be gone over. The
+    // right side is all 0 then.
     fn put_all(&mut self, right: &mut Sparse<F>, steps: &[usize]) {
         for k in &right.places {
             let step = at(steps, *k);
@@ -150,7 +152,8 @@ impl<F: Field> Marked<F> {
         }
     }
 
-    // The last of 64 steps that is to be gone over; it is not to be gone over again.
+    // The last of the 64 steps from step `64 w` on that is to be gone over; it is not to be gone over again. None where
+    // none of them is.
     #[inline(always)]
     fn take_last(&mut self, w: usize) -> Option<usize> {
         let word = self.marks.get_mut(w)?;
@@ -201,7 +204,8 @@ impl<F: Field> Drop for Ordered<F> {
     }
 }
 
-// Writes for each row or column its step into an empty list.
+// Writes the step of each row or column into an empty list. `names` has the rows or columns in the order of their
+// steps.
 fn put_steps(steps: &mut Vec<usize>, names: &[usize]) -> Result<(), AllocError> {
     steps.resize(names.len(), 0)?;
     for (step, name) in names.iter().enumerate() {
@@ -235,7 +239,7 @@ fn put_lines<F: Field>(
 }
 
 impl<F: Field> Ordered<F> {
-    // No steps yet.
+    // Factors that have no steps yet.
     fn new(alloc: Global) -> Self {
         Ordered {
             rows: Vec::new(alloc),
@@ -250,7 +254,7 @@ impl<F: Field> Ordered<F> {
         }
     }
 
-    // Notes the rows and the columns of the steps.
+    // Takes over the row, the column and the inverse of each step, and notes the step of each row and each column.
     fn note_names(&mut self, factors: &Factors<F>) -> Result<(), AllocError> {
         self.rows.extend_from_slice(&factors.rows)?;
         self.columns.extend_from_slice(&factors.columns)?;
@@ -259,7 +263,7 @@ impl<F: Field> Ordered<F> {
         put_steps(&mut self.column_steps, &factors.columns)
     }
 
-    // Notes the numbers of the factors.
+    // Takes over the numbers of both factors, each at the step of its place, and makes the transposed lines.
     fn note_lines(&mut self, alloc: Global, factors: &Factors<F>) -> Result<(), AllocError> {
         put_lines(&mut self.lower, &factors.lower, &self.row_steps)?;
         put_lines(&mut self.upper, &factors.upper, &self.column_steps)?;
@@ -271,7 +275,7 @@ impl<F: Field> Ordered<F> {
     }
 }
 
-/// The factors by their steps.
+/// The same factors, with rows and columns named by their steps.
 pub fn order_factors<F: Field>(
     alloc: Global,
     factors: &Factors<F>,
@@ -296,7 +300,8 @@ fn next_step(word: u64, left: &mut u64, w: usize) -> Option<usize> {
     )
 }
 
-// A number times what makes 1 with the diagonal's number at its step. Where there are none the diagonal is 1.
+// A number divided by the diagonal's number at its step, of which `inverses` has the inverse. Without inverses the
+// diagonal is 1.
 #[inline(always)]
 fn divided<F: Field>(number: F, inverses: &[F], step: usize) -> F {
     match inverses.get(step) {
@@ -305,7 +310,8 @@ fn divided<F: Field>(number: F, inverses: &[F], step: usize) -> F {
     }
 }
 
-// Goes over 64 steps of a triangular matrix, given by columns without the diagonal.
+// Solves a triangular system in place, at those of 64 steps that are to be gone over, the first one first. The matrix
+// is given by columns without the diagonal.
 fn forward_word<F: Field>(room: &mut Marked<F>, w: usize, lines: &Lines<F>, inverses: &[F]) {
     let mut left = u64::MAX;
     for _ in 0..64 {
@@ -320,7 +326,7 @@ fn forward_word<F: Field>(room: &mut Marked<F>, w: usize, lines: &Lines<F>, inve
     }
 }
 
-// Goes over all its steps.
+// Solves a triangular system in place, at all steps, the first one first.
 fn forward_all<F: Field>(numbers: &mut [F], lines: &Lines<F>, inverses: &[F]) {
     for step in 0..lines.len() {
         let number = value_at(numbers, step);
@@ -332,7 +338,8 @@ fn forward_all<F: Field>(numbers: &mut [F], lines: &Lines<F>, inverses: &[F]) {
     }
 }
 
-// Puts the solution of its equations in place of the right sides.
+// Solves a triangular system in place of the right sides, the first step first: at the marked steps, or at all of them
+// if many are marked.
 fn forward<F: Field>(room: &mut Marked<F>, lines: &Lines<F>, inverses: &[F]) {
     if room.is_many() {
         forward_all(&mut room.numbers, lines, inverses);
@@ -343,7 +350,8 @@ fn forward<F: Field>(room: &mut Marked<F>, lines: &Lines<F>, inverses: &[F]) {
     }
 }
 
-// Goes over 64 steps of a triangular matrix backwards, and puts their numbers into the solution under the steps' names.
+// Solves a triangular system at those of 64 steps that are to be gone over, the last one first. Their numbers and marks
+// leave the room: numbers that are not negligible go into the solution, under the steps' names.
 fn backward_word<F: Field>(
     room: &mut Marked<F>,
     w: usize,
@@ -366,7 +374,8 @@ fn backward_word<F: Field>(
     Ok(())
 }
 
-// Goes over all its steps backwards.
+// Solves a triangular system at all steps, the last one first. The numbers are moved into the solution, under the
+// steps' names.
 fn backward_all<F: Field>(
     numbers: &mut [F],
     lines: &Lines<F>,
@@ -385,7 +394,9 @@ fn backward_all<F: Field>(
     }
 }
 
-// The solution of its equations, under the steps' names. The room is as before it was used.
+// Solves a triangular system, the last step first, at the marked steps, or at all of them if many are marked. The
+// numbers, at marked steps those that are not negligible, are moved from the room into the solution, under the steps'
+// names. The room is all 0 and unmarked then.
 fn backward<F: Field>(
     room: &mut Marked<F>,
     lines: &Lines<F>,
@@ -412,7 +423,7 @@ fn backward<F: Field>(
 }
 
 impl<F: Field> Ordered<F> {
-    /// How many numbers the factors have.
+    /// How many numbers both factors have, with the pivots.
     pub fn size(&self) -> usize {
         let off_pivots = self.lower.size().wrapping_add(self.upper.size());
         off_pivots.wrapping_add(self.rows.len())

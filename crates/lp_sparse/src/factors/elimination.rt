@@ -7,7 +7,7 @@ use crate::lines::{Entry, at, put};
 use std::alloc::{AllocError, Global};
 
 impl<F: Field> Factors<F> {
-    // Notes the numbers of a pivot's row without the pivot.
+    // Adds a pivot's row, which is without the pivot, to the upper factor as its next line.
     fn note_row(&mut self, row: &[Entry<F>]) -> Result<(), AllocError> {
         for entry in row {
             self.upper.put(entry.place, entry.value)?;
@@ -15,7 +15,8 @@ impl<F: Field> Factors<F> {
         self.upper.end()
     }
 
-    // Notes a step whose multiples are noted already.
+    // Notes the row, the column and the inverse of a pivot, and ends the lower factor's line, which has the multiples
+    // already.
     fn note_step(&mut self, pivot: Pivot, inverse: F) -> Result<(), AllocError> {
         self.rows.push(pivot.row)?;
         self.columns.push(pivot.column)?;
@@ -46,7 +47,7 @@ impl<F: Field> Drop for PivotRow<F> {
     }
 }
 
-// Takes the number of this column out of a row.
+// Takes the number in this column out of a row, and gives it; none if the row has no number there.
 fn take_number<F: Field>(row: &mut Vec<Entry<F>>, column: usize) -> Option<F> {
     for k in 0..row.len() {
         if let Some(entry) = row.get(k) {
@@ -67,7 +68,7 @@ fn remove_at<T: Copy>(list: &mut Vec<T>, k: usize) {
     }
 }
 
-// Takes one row out of those of a column.
+// Takes a row out of the list of a column's rows, and lowers the column's count by 1.
 fn forget_row<F: Field>(active: &mut Active<F>, column: usize, row: usize) {
     if let Some(rows) = active.columns.get_mut(column) {
         take_place(rows, row);
@@ -76,7 +77,7 @@ fn forget_row<F: Field>(active: &mut Active<F>, column: usize, row: usize) {
     active.by_column.move_to(column, count);
 }
 
-// Takes a number out of a list.
+// Takes the first item that equals this number out of a list, if there is one. The last item comes in its place.
 fn take_place(list: &mut Vec<usize>, number: usize) {
     for k in 0..list.len() {
         if at(list, k) == number {
@@ -86,7 +87,8 @@ fn take_place(list: &mut Vec<usize>, number: usize) {
     }
 }
 
-// Takes a multiple of the pivot's row off the numbers that a row has in the same columns. Whether one is 0 then.
+// Subtracts a multiple of the pivot's row from the numbers that a row has in the same columns, and notes these columns
+// by the stamp. Says whether one of the numbers is negligible then.
 fn take_off<F: Field>(
     active: &Active<F>,
     row: &mut [Entry<F>],
@@ -107,7 +109,8 @@ fn take_off<F: Field>(
     has_zero
 }
 
-// Adds to a row the numbers that an elimination step makes at places where the row had none.
+// Adds to row `i` the numbers that an elimination step makes at places where the row had none. Their columns get the
+// row too.
 fn fill_in<F: Field>(
     active: &mut Active<F>,
     i: usize,
@@ -132,7 +135,7 @@ fn fill_in<F: Field>(
     Ok(())
 }
 
-// Takes the numbers that are 0 out of a row.
+// Takes the numbers that are negligible out of row `i`, and the row out of their columns.
 fn drop_zeros<F: Field>(active: &mut Active<F>, i: usize, row: &mut Vec<Entry<F>>) {
     let mut k = 0usize;
     for _ in 0..row.len() {
@@ -146,7 +149,7 @@ fn drop_zeros<F: Field>(active: &mut Active<F>, i: usize, row: &mut Vec<Entry<F>
     }
 }
 
-// Clears the pivot's column in a row, and gives the multiple of the pivot's row that it takes.
+// Eliminates the pivot's column from row `i`, and gives the multiple of the pivot's row that was subtracted for it.
 fn clear<F: Field>(
     alloc: Global,
     active: &mut Active<F>,
@@ -168,7 +171,8 @@ fn clear<F: Field>(
     Ok(times)
 }
 
-// Clears the pivot's column in those of these rows that are left, and notes the multiples.
+// Eliminates the pivot's column from those of these rows that have had no pivot, and puts the multiples into the lower
+// factor.
 fn clear_all<F: Field>(
     alloc: Global,
     active: &mut Active<F>,
@@ -185,7 +189,8 @@ fn clear_all<F: Field>(
     Ok(())
 }
 
-// Takes the row and the column of a pivot out of those that are left.
+// Takes the pivot's row and column out of the buckets, and lowers the count of each other column of the pivot's row by
+// 1.
 fn settle<F: Field>(active: &mut Active<F>, pivot: Pivot, row: &[Entry<F>]) {
     active.by_row.remove(pivot.row);
     active.by_column.remove(pivot.column);
@@ -195,7 +200,8 @@ fn settle<F: Field>(active: &mut Active<F>, pivot: Pivot, row: &[Entry<F>]) {
     }
 }
 
-// Takes the pivot's row out, but for the pivot, if that is one.
+// Takes the pivot's row out of the matrix, and the pivot out of that row. None if the row has no number in the pivot's
+// column.
 fn take_pivot_row<F: Field>(
     alloc: Global,
     active: &mut Active<F>,
@@ -230,7 +236,8 @@ fn eliminate_with<F: Field>(
     factors.note_row(&row.numbers)
 }
 
-/// Eliminates with a pivot, and notes the step. Where the pivot is 0 there is none.
+/// Eliminates with a pivot, and notes the step. Gives false, and notes nothing, where the row has no number in the
+/// pivot's column.
 pub(crate) fn eliminate<F: Field>(
     alloc: Global,
     active: &mut Active<F>,

@@ -11,7 +11,7 @@ const LOOKED_AT: usize = 6;
 // How large a pivot is at least beside the largest number of its row, where arithmetic is not exact.
 const STABLE: f64 = 0.1;
 
-// What is no pivot where arithmetic is not exact.
+// Below this magnitude a number is no pivot where arithmetic is not exact.
 const NO_PIVOT: f64 = 1e-9;
 
 /// The place of a pivot, and how many numbers it may bring into being at most.
@@ -30,7 +30,8 @@ struct Search {
 }
 
 impl Search {
-    // Whether nothing below this cost is left to be found, or enough was looked at.
+    // Whether the search ends: there is a pivot, and it costs no more than this, or enough rows and columns were looked
+    // at.
     fn is_over(self, cost: usize) -> bool {
         match self.best {
             Some(best) => best.cost <= cost || self.seen >= LOOKED_AT,
@@ -38,7 +39,7 @@ impl Search {
         }
     }
 
-    // Whether a pivot of this cost is better.
+    // Whether a pivot of this cost is better than the best one so far. It is where there is none yet.
     fn is_better(self, cost: usize) -> bool {
         match self.best {
             Some(best) => cost < best.cost,
@@ -47,7 +48,7 @@ impl Search {
     }
 }
 
-// How large a number in a row has to be as a pivot.
+// The least magnitude of a pivot in a row of floats: a tenth of the row's largest one, and `NO_PIVOT` at least.
 fn threshold<F: Field>(row: &[Entry<F>]) -> f64 {
     let mut most = 0.0f64;
     for entry in row {
@@ -56,8 +57,8 @@ fn threshold<F: Field>(row: &[Entry<F>]) -> f64 {
     (most * STABLE).max(NO_PIVOT)
 }
 
-// Whether the number of a row in this column may be a pivot. The only one of its column is never a multiple of another, so
-// its row does not matter.
+// Whether the number of a row in this column is large enough for a pivot; always where arithmetic is exact. In a column
+// of one number (`count` is 1) the other numbers of the row do not matter.
 fn is_stable<F: Field>(row: &[Entry<F>], column: usize, count: usize) -> bool {
     if F::is_exact() {
         return true;
@@ -71,13 +72,15 @@ fn is_stable<F: Field>(row: &[Entry<F>], column: usize, count: usize) -> bool {
     false
 }
 
-// `(a - 1) (b - 1)`
+// `(a - 1) (b - 1)`: how many numbers a pivot may bring into being at most, in a row of `a` numbers and a column of
+// `b`.
 #[inline(always)]
 fn markowitz(a: usize, b: usize) -> usize {
     a.saturating_sub(1).saturating_mul(b.saturating_sub(1))
 }
 
-// Looks at a column with so many numbers.
+// Looks at the numbers of a column, `count` in all, that are large enough for a pivot, and keeps the best of them if it
+// is better than the search's.
 fn look_at_column<F: Field>(active: &Active<F>, column: usize, count: usize, search: &mut Search) {
     search.seen = search.seen.wrapping_add(1);
     for row in active.column(column) {
@@ -94,7 +97,8 @@ fn look_at_column<F: Field>(active: &Active<F>, column: usize, count: usize, sea
     }
 }
 
-// Looks at a row with so many numbers.
+// Looks at the numbers of a row, `count` in all, that are large enough for a pivot, and keeps the best of them if it is
+// better than the search's.
 fn look_at_row<F: Field>(active: &Active<F>, row: usize, count: usize, search: &mut Search) {
     search.seen = search.seen.wrapping_add(1);
     let least = if F::is_exact() {
@@ -114,7 +118,7 @@ fn look_at_row<F: Field>(active: &Active<F>, row: usize, count: usize, search: &
     }
 }
 
-// Looks at the columns with so many numbers.
+// Looks at the columns of `count` numbers each, one after the other, until the search is over.
 fn look_at_columns<F: Field>(active: &Active<F>, count: usize, search: &mut Search) {
     let mut next = active.by_column.first(count);
     for _ in 0..active.columns.len() {
@@ -129,7 +133,7 @@ fn look_at_columns<F: Field>(active: &Active<F>, count: usize, search: &mut Sear
     }
 }
 
-// Looks at the rows with so many numbers.
+// Looks at the rows of `count` numbers each, one after the other, until the search is over.
 fn look_at_rows<F: Field>(active: &Active<F>, count: usize, search: &mut Search) {
     let mut next = active.by_row.first(count);
     for _ in 0..active.rows.len() {
