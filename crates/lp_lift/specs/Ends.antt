@@ -5,7 +5,7 @@ use Rattle.spec_check.specs.Certificate.{IsFor}
 use Rattle.lp_lift.specs.declared.answer.Step.{Step}
 use Rattle.lp_lift.specs.declared.answer.Step.TheVariants.{Moved, Ended, Lost}
 
--- a certificate for the model
+-- if the step ended with a certificate, that has the model's sizes, whatever it shows; of other steps nothing is asked
 abbrev pub EndsFor : Model → Step → Type 0
 EndsFor m Moved = ⊤
 EndsFor m (Ended c) = IsFor m c

@@ -124,7 +124,7 @@ fn units(alloc: Global, len: usize, k: usize, is_positive: bool) -> Result<Vec<F
     Ok(list)
 }
 
-/// What a step comes to.
+/// What a step comes to: another basis or other costs, a certificate, or nothing, as a number is past what is taken.
 #[derive(Drop)]
 enum Step {
     Moved,
@@ -170,7 +170,7 @@ fn multipliers(
     )
 }
 
-// The certificate of an optimum.
+// The end with the certificate of an optimum: the basis' point, and its multipliers by the program's costs.
 fn optimal(
     alloc: Global,
     program: &Program<'_>,
@@ -184,7 +184,8 @@ fn optimal(
     Ok(Step::Ended(Certificate::Optimal { x, y }))
 }
 
-// Multipliers that no point meets, by the row of a column that leaves, for which none may enter.
+// The end with Farkas multipliers, from the row of a leaving column for which no column may enter. `solved` solves that
+// row.
 fn infeasible(
     alloc: Global,
     program: &Program<'_>,
@@ -200,7 +201,8 @@ fn infeasible(
     Ok(Step::Ended(Certificate::Infeasible { y }))
 }
 
-// A step of the dual method, or multipliers that no point meets. It exchanges two columns of the run's basis.
+// A step of the dual method: exchanges the leaving column with the one that enters for it. Ends with Farkas multipliers
+// where none may enter; `Lost` where lifting finds no solution.
 fn dual_step(
     alloc: Global,
     program: &Program<'_>,
@@ -246,7 +248,7 @@ fn range(program: &Program<'_>, k: usize) -> f64 {
     }
 }
 
-// A point, and a ray along which a column goes that nothing stops.
+// The end with a point, and with the ray along which the entering column goes, as nothing stops it.
 fn unbounded(
     alloc: Global,
     program: &Program<'_>,
@@ -262,7 +264,8 @@ fn unbounded(
     Ok(Step::Ended(Certificate::Unbounded { x, r }))
 }
 
-// A step of the primal method, or a point and a ray. It changes where columns stand in the run's basis.
+// A step of the primal method: the entering column goes as far as it may, and exchanges or flips. Ends with a point and
+// a ray where nothing stops it; `Lost` where lifting finds no solution.
 fn primal_step(
     alloc: Global,
     program: &Program<'_>,
@@ -295,7 +298,8 @@ fn restore(alloc: Global, program: &Program<'_>, run: &mut Run) -> Result<(), Al
     Ok(())
 }
 
-// One step from a basis with a column outside of its bounds.
+// One step from a basis with a column outside of its bounds: flips of columns with wrong reduced costs, else shifts of
+// costs, else a step of the dual method.
 fn toward_point(
     alloc: Global,
     program: &Program<'_>,
@@ -316,7 +320,8 @@ fn toward_point(
     dual_step(alloc, program, prepared, run, found, leaving)
 }
 
-// One step at this column, if it is outside of its bounds, or if it is not basic and none is.
+// One step that begins at column `k`: of the dual method if the column is outside of its bounds; of the primal method
+// if its reduced cost is wrong, and no column is outside. Otherwise none.
 fn step_at_column(
     alloc: Global,
     program: &Program<'_>,
@@ -343,7 +348,8 @@ fn step_at_column(
     }
 }
 
-// One step from a basis, at the column to begin with, if there is one.
+// One step from a basis: at the run's witness, if it has one that allows a step, else by the rules. The witness is used
+// up.
 fn step_at(
     alloc: Global,
     program: &Program<'_>,
@@ -363,7 +369,9 @@ fn step_at(
     step_by_rules(alloc, program, prepared, run, found)
 }
 
-// One step from a basis, by the rules of the methods.
+// One step from a basis, the first of these that applies: flips at the run's start; a step toward the bounds, if a
+// column is outside; the program's costs again, if they were shifted; a step of the primal method; the end with an
+// optimum.
 fn step_by_rules(
     alloc: Global,
     program: &Program<'_>,
@@ -389,7 +397,8 @@ fn step_by_rules(
     }
 }
 
-// One step from a basis that may be singular.
+// One step from the run's basis. A singular basis is mended, which is a step too. `Lost` where the numbers are too wide
+// or lifting finds no solution.
 fn step_from(alloc: Global, program: &Program<'_>, run: &mut Run) -> Result<Step, AllocError>
     ensures { IfOk result (EndsFor program.now.model.now) }
 {
@@ -404,7 +413,8 @@ fn step_from(alloc: Global, program: &Program<'_>, run: &mut Run) -> Result<Step
     }
 }
 
-// The answer from a basis of a program.
+// The certificate to which steps from a basis lead, with the statuses there. None where more than `most_steps` steps
+// are wanted, or a step is lost.
 fn answer_from(
     alloc: Global,
     program: &Program<'_>,
@@ -464,7 +474,8 @@ pub fn answer_of_basis(
 }
 
 impl Run {
-    // The end of the run with this certificate, if there are statuses of so many columns.
+    // The run's end with this certificate, its statuses and its steps. None where there are not statuses of `columns`
+    // columns.
     fn into_lifted(self, columns: usize, certificate: Certificate) -> Option<Lifted>
         ensures certificate { IfSome result (λ l. l.certificate ≡ certificate) }
         ensures statuses { IfSome result (λ l. length l.statuses.items ≡ columns) }

@@ -63,7 +63,7 @@ fn chosen(
     Ok((list, places))
 }
 
-/// The kernel of a basis.
+/// The kernel of a basis: its basic structural columns, and the rows whose logical column is nonbasic.
 pub(crate) fn kernel_of(
     alloc: Global,
     program: &Program<'_>,
@@ -111,7 +111,7 @@ impl Drop for WholeKernel {
     }
 }
 
-// The lowest digit of a number by the prime, which may be negative, and the quotient above it.
+// The digit nearest to 0 that is congruent to a number modulo the prime, and the quotient by the prime of the rest.
 fn low_digit(n: i128) -> (i64, i128) {
     let prime = i128::from(PRIME);
     let half = prime / 2;
@@ -120,7 +120,8 @@ fn low_digit(n: i128) -> (i64, i128) {
     (i64::try_from(rest).unwrap_or(0), above)
 }
 
-// Adds the lowest digit of a number to one matrix and the next one to another. Says whether these two digits are all.
+// Adds the lowest digit of a number to the lower matrix, and what is above it, unless that is 0, to the upper one. Says
+// whether what is above fits 64 bits.
 fn put_number(
     low: &mut Lines<i64>,
     high: &mut Lines<i64>,
@@ -141,7 +142,8 @@ fn put_number(
     }
 }
 
-// Adds the digits of a column's numbers to both matrices. Says whether two digits suffice.
+// Adds a column's numbers in the kernel's rows, each times its row's scale, to both matrices as digits. Says whether
+// two digits suffice for each.
 fn put_column(
     low: &mut Lines<i64>,
     high: &mut Lines<i64>,
@@ -164,7 +166,8 @@ fn put_column(
     Ok(true)
 }
 
-// The numbers of a kernel by column, if they fit.
+// The kernel's columns in whole numbers, as one or two matrices of digits. None where two digits do not suffice for a
+// number.
 fn columns_of(
     alloc: Global,
     program: &Program<'_>,
@@ -182,7 +185,7 @@ fn columns_of(
     Ok(Some(levels(alloc, low, high)?))
 }
 
-// How many bits the largest sum of a line's magnitudes takes.
+// How many bits the largest sum of a line's absolute values takes.
 fn most_bits(lines: &Lines<i64>) -> usize {
     let mut most = 0u128;
     for k in 0..lines.len() {
@@ -191,7 +194,7 @@ fn most_bits(lines: &Lines<i64>) -> usize {
     128 - most.leading_zeros() as usize
 }
 
-// The sum of the magnitudes of a line.
+// The sum of the absolute values of line `k`.
 fn magnitude(lines: &Lines<i64>, k: usize) -> u128 {
     let mut sum = 0u128;
     for entry in lines.line(k) {
@@ -200,7 +203,7 @@ fn magnitude(lines: &Lines<i64>, k: usize) -> u128 {
     sum
 }
 
-// Two lists as one, without the second where it has no numbers.
+// The two matrices of digits as a list, without the upper one where it has no numbers.
 fn levels(alloc: Global, low: Lines<i64>, high: Lines<i64>) -> Result<Vec<Lines<i64>>, AllocError> {
     let mut list = Vec::new(alloc);
     list.push(low)?;
@@ -215,7 +218,7 @@ fn levels(alloc: Global, low: Lines<i64>, high: Lines<i64>) -> Result<Vec<Lines<
 // How many bits a sum may take that is multiplied by a digit.
 const MOST_BITS: usize = 64;
 
-// How many bits the sums of all levels take at most.
+// How many bits the sum of a line's absolute values takes at most, with the digits of all levels together.
 fn bits_of(levels: &[Lines<i64>]) -> usize {
     let mut most = 0usize;
     for (k, level) in levels.iter().enumerate() {
@@ -224,12 +227,12 @@ fn bits_of(levels: &[Lines<i64>]) -> usize {
     most.wrapping_add(levels.len().saturating_sub(1))
 }
 
-// Whether there are two levels at most, whose sums fit.
+// Whether there are two levels at most, and the sums of a line's absolute values take at most 64 bits in each.
 fn are_short(levels: &[Lines<i64>]) -> bool {
     levels.len() <= 2 && levels.iter().all(|level| most_bits(level) <= MOST_BITS)
 }
 
-// The matrices of all digits, by rows instead of columns.
+// The transposed matrices of all levels: the digits by row instead of by column.
 fn turned_levels(
     alloc: Global,
     levels: &[Lines<i64>],
@@ -243,7 +246,8 @@ fn turned_levels(
     Ok(list)
 }
 
-/// The kernel whose columns have these digits.
+/// The kernel in whole numbers whose columns have these digits, with the same numbers by row, and the sizes of their
+/// sums.
 pub(crate) fn whole_from(
     alloc: Global,
     kernel: &Kernel,
@@ -291,7 +295,7 @@ pub(crate) fn whole_of(
 
 // ---- factors
 
-// The columns of a kernel modulo the prime.
+// The kernel's columns modulo the prime, from the lowest digits of their numbers.
 fn residues_of(
     alloc: Global,
     kernel: &Kernel,
@@ -304,7 +308,7 @@ fn residues_of(
     Ok(lines)
 }
 
-// Puts a column.
+// Adds a column to the lines, with its numbers modulo the prime.
 fn put_residues(lines: &mut Lines<Residue>, line: &[Entry<i64>]) -> Result<(), AllocError> {
     for entry in line {
         lines.put(entry.place, Residue::of(i128::from(entry.value)))?;
@@ -312,7 +316,7 @@ fn put_residues(lines: &mut Lines<Residue>, line: &[Entry<i64>]) -> Result<(), A
     lines.end()
 }
 
-/// The factors of a kernel.
+/// The factors of a kernel modulo the prime, or its rows and columns without a pivot where it is singular.
 pub(crate) fn factored(
     alloc: Global,
     kernel: &Kernel,
@@ -325,7 +329,8 @@ pub(crate) fn factored(
     factorize(alloc, kernel.rows.len(), &columns)
 }
 
-/// Lets the structural columns of these positions be not basic, and the logicals of the rows of these.
+/// Makes the structural columns at these positions of the kernel nonbasic, and the logical columns of the rows at these
+/// positions basic.
 pub(crate) fn mend(
     program: &Program<'_>,
     kernel: &Kernel,
@@ -346,7 +351,7 @@ pub(crate) fn mend(
     }
 }
 
-/// Lets a column be not basic, at one of its bounds.
+/// Makes column `k` nonbasic: at its lower bound, else at its upper one, else at 0.
 pub(crate) fn rest(program: &Program<'_>, statuses: &mut [Status], k: usize) {
     let lower = program.lower(k);
     let upper = program.upper(k);
@@ -373,7 +378,7 @@ impl Drop for Prepared {
     }
 }
 
-/// What comes of a basis.
+/// What comes of preparing a basis for its equations.
 #[derive(Drop)]
 pub(crate) enum Preparation {
     Ready(Prepared),
@@ -383,7 +388,7 @@ pub(crate) enum Preparation {
     Past,
 }
 
-/// Factors the kernel of a basis, or mends the basis.
+/// Factors the kernel of a basis. If it is singular the statuses are mended. `Past` where a row's scale is too wide.
 pub(crate) fn prepare(
     alloc: Global,
     program: &Program<'_>,

@@ -5,7 +5,7 @@ use crate::statuses::{is_basic_at, put_status, status_at};
 use lp_frac::{Frac, are_same};
 use spec_pivot::Status;
 
-/// A basic column outside of its bounds.
+/// A basic column outside of its bounds, and whether it is below the lower one.
 #[derive(Clone, Copy)]
 pub(crate) struct Leaving {
     pub(crate) column: usize,
@@ -28,7 +28,7 @@ pub(crate) enum Block {
     Own,
 }
 
-// Whether two bounds are there and are the same.
+// Whether both bounds exist and are equal.
 fn is_fixed(lower: Option<Frac>, upper: Option<Frac>) -> bool {
     match (lower, upper) {
         (Some(lower), Some(upper)) => are_same(lower, upper),
@@ -62,7 +62,7 @@ fn is_boxed(program: &Program<'_>, k: usize) -> bool {
     program.lower(k).is_some() && program.upper(k).is_some()
 }
 
-// Flips a column to its other bound.
+// Flips a column that is at a bound to its other one; any other column stays as it is.
 fn flip(statuses: &mut [Status], k: usize) {
     let other = match status_at(statuses, k) {
         Status::AtLower => Status::AtUpper,
@@ -84,7 +84,8 @@ pub(crate) fn flip_wrong(program: &Program<'_>, statuses: &mut [Status], reduced
     is_any
 }
 
-/// The nonbasic column whose reduced cost of the wrong sign has the greatest absolute value.
+/// The nonbasic column with the greatest reduced cost of the wrong sign, in absolute value, and whether it rises. None
+/// if no sign is wrong.
 pub(crate) fn most_wrong(
     program: &Program<'_>,
     statuses: &[Status],
@@ -122,7 +123,7 @@ pub(crate) fn entering_at(
     }
 }
 
-/// A column as one that leaves, if it is outside of its bounds.
+/// Column `k` as one that leaves, if it is outside of its bounds; else none.
 pub(crate) fn leaving_at(rooms: &[Room], k: usize) -> Option<Leaving> {
     match rooms.get(k) {
         Some(room) if room.above_lower.min(room.below_upper) < 0.0 => Some(Leaving {
@@ -133,7 +134,7 @@ pub(crate) fn leaving_at(rooms: &[Room], k: usize) -> Option<Leaving> {
     }
 }
 
-/// The basic column that is furthest outside of its bounds.
+/// The basic column that is furthest outside of its bounds; none if all are within them.
 pub(crate) fn furthest_outside(rooms: &[Room]) -> Option<Leaving> {
     let mut found = None;
     let mut most = 0.0f64;
@@ -150,8 +151,8 @@ pub(crate) fn furthest_outside(rooms: &[Room]) -> Option<Leaving> {
     found
 }
 
-/// The column that enters for one that leaves, from the reduced costs, and from those where this column alone costs 1: the
-/// rates at which it moves with the others.
+/// The nonbasic column that enters for a leaving one, by the dual ratio test: the least ratio of reduced cost to rate.
+/// `rates` are the reduced costs where the leaving column alone costs 1. None if no column may enter.
 pub(crate) fn dual_entering(
     program: &Program<'_>,
     statuses: &[Status],
@@ -175,7 +176,7 @@ pub(crate) fn dual_entering(
     found
 }
 
-// How far a column moves at this rate within its room, and whether it ends at its lower bound.
+// How far a column may move at this rate, above or below 0, before it meets a bound, and whether that is its lower one.
 fn way(room: Room, rate: f64) -> (f64, bool) {
     if rate < 0.0 {
         (room.above_lower.max(0.0) / -rate, true)
@@ -184,7 +185,8 @@ fn way(room: Room, rate: f64) -> (f64, bool) {
     }
 }
 
-/// What stops a column whose range is this, from the rooms of the basic columns and the rates at which they move with it.
+/// What first stops the entering column, by the ratio test: a basic column at a bound, or the end of its own range
+/// between its bounds. None if nothing stops it.
 pub(crate) fn blocked(range: f64, rooms: &[Room], rates: &[f64]) -> Option<Block> {
     let mut found = if range < f64::INFINITY {
         Some(Block::Own)
@@ -217,7 +219,7 @@ fn room_at(rooms: &[Room], k: usize) -> Room {
     }
 }
 
-// The status at a bound.
+// `AtLower` if so said, else `AtUpper`.
 fn at_bound(at_lower: bool) -> Status {
     if at_lower {
         Status::AtLower
@@ -226,13 +228,13 @@ fn at_bound(at_lower: bool) -> Status {
     }
 }
 
-/// Lets a column be basic in place of another one.
+/// Makes the entering column basic, and the leaving one nonbasic at its lower or upper bound.
 pub(crate) fn exchange(statuses: &mut [Status], entering: usize, leaving: usize, at_lower: bool) {
     put_status(statuses, leaving, at_bound(at_lower));
     put_status(statuses, entering, Status::Basic);
 }
 
-/// Makes the move that a block ends.
+/// Makes the entering column basic in place of the column that blocks it, or flips it where its own bound does.
 pub(crate) fn advance(statuses: &mut [Status], entering: Entering, block: Block) {
     match block {
         Block::Column { column, at_lower } => {

@@ -10,7 +10,7 @@ use lp_ratio::Ratio;
 use lp_sparse::Solved;
 use std::alloc::{AllocError, Global};
 
-// A number of a solution.
+// The number at a place of a solution, or its opposite; 0 where the solution has no such place.
 fn solved_number(
     alloc: Global,
     solved: &Solved,

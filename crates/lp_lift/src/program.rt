@@ -66,7 +66,7 @@ impl Program<'_> {
     }
 }
 
-// The bound at `k`, if there is one.
+// The bound at `k`; none where it is absent or the list is shorter.
 fn bound_at(bounds: &[Option<Frac>], k: usize) -> Option<Frac> {
     match bounds.get(k) {
         Some(bound) => *bound,
@@ -74,7 +74,8 @@ fn bound_at(bounds: &[Option<Frac>], k: usize) -> Option<Frac> {
     }
 }
 
-// Adds the bounds and the costs of all structural columns to the lists.
+// Adds the bounds of all structural columns to the lists, and their costs, negated where the objective is to be made
+// greatest.
 fn put_columns(
     model: &Model,
     lowers: &mut Vec<Option<Frac>>,
@@ -90,7 +91,7 @@ fn put_columns(
     Ok(())
 }
 
-// Adds the limits of all rows to the lists of bounds. Says whether all are within the limit on numbers.
+// Adds the limits of all rows to the lists of bounds. Says whether all are within 127 bits.
 fn put_rows(
     model: &Model,
     lowers: &mut Vec<Option<Frac>>,

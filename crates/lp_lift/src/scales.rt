@@ -6,7 +6,7 @@ use lp_sparse::Right;
 use lp_sparse::wide::{Words, words_of};
 use std::alloc::{AllocError, Global};
 
-/// What each row of a model is multiplied by.
+/// What each row of a model is multiplied by, so that its numbers are whole.
 #[derive(Drop)]
 pub(crate) enum Scales {
     /// Whole numbers for all rows, with which the sums of the others are whole too.
@@ -24,7 +24,7 @@ impl Scales {
         }
     }
 
-    /// The scale of a row as a number of any width.
+    /// The scale of row `i` as a number of any width; 1 where there is none.
     pub(crate) fn words_at(&self, alloc: Global, i: usize) -> Result<Words, AllocError> {
         match self {
             Scales::Short(scales) => words_of(alloc, scale_at(scales, i).unsigned_abs()),
@@ -76,7 +76,7 @@ fn common_divisor(a: i128, b: i128) -> i128 {
     1
 }
 
-/// The least common multiple of two numbers above 0.
+/// The least common multiple of two numbers above 0; none where it is past 127 bits.
 pub(crate) fn least_common(a: i128, b: i128) -> Option<i128> {
     if a == b || b == 1 {
         return Some(a);
@@ -88,13 +88,13 @@ pub(crate) fn least_common(a: i128, b: i128) -> Option<i128> {
     (a / divisor).checked_mul(b)
 }
 
-/// A fraction times the scale at `k`, if that is whole and within 127 bits.
+/// A fraction times the scale at `k`, which its denominator divides; none where that is past 127 bits.
 #[inline(always)]
 pub(crate) fn multiple(v: Frac, scales: &[i128], k: usize) -> Option<i128> {
     times_scale(v, scale_at(scales, k))
 }
 
-/// A fraction times a scale, of which its denominator is a divisor, if that is within 127 bits.
+/// A fraction times a scale that its denominator divides; none where that is past 127 bits.
 #[inline(always)]
 pub(crate) fn times_scale(v: Frac, scale: i128) -> Option<i128> {
     let under = den(v);
@@ -107,7 +107,7 @@ pub(crate) fn times_scale(v: Frac, scale: i128) -> Option<i128> {
     num(v).checked_mul(quotient(scale, under))
 }
 
-// The quotient of two numbers above 0.
+// The quotient of two numbers above 0, rounded down.
 #[inline(always)]
 fn quotient(a: i128, b: i128) -> i128 {
     if b == 1 {
@@ -120,7 +120,8 @@ fn quotient(a: i128, b: i128) -> i128 {
     }
 }
 
-// Makes the scales of rows multiples of a column's denominators. Whether they are within 127 bits.
+// Makes the scales of rows multiples of a column's denominators there: of all rows if the column is basic, else of
+// those outside of the kernel. Says whether they are within 127 bits.
 fn fit_column(
     scales: &mut [i128],
     entries: &[(u32, Frac)],
@@ -165,7 +166,7 @@ pub(crate) fn common_denominator(fractions: &[Frac]) -> Option<i128> {
     Some(scale)
 }
 
-// The fractions times a scale, of which each denominator is a divisor, if all are within 126 bits.
+// The fractions times a scale, of which each denominator is a divisor; none where one takes more than 125 bits.
 fn whole_numbers(
     alloc: Global,
     fractions: &[Frac],
@@ -181,7 +182,7 @@ fn whole_numbers(
     Ok(Some(numbers))
 }
 
-// How many bits the largest one takes.
+// How many bits the largest absolute value of these numbers takes.
 fn most_bits(numbers: &[i128]) -> usize {
     let mut most = 0u128;
     for n in numbers {
@@ -190,7 +191,8 @@ fn most_bits(numbers: &[i128]) -> usize {
     128 - most.leading_zeros() as usize
 }
 
-/// The fractions as whole numbers on their least common denominator, if all are within 126 bits.
+/// The fractions as whole numbers on their least common denominator. None where that is past 127 bits, or a number is
+/// past 125 bits.
 pub(crate) fn on_one_denominator(
     alloc: Global,
     fractions: &[Frac],

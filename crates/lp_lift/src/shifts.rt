@@ -7,7 +7,7 @@ use spec_pivot::Status;
 // How many doublings a shift is from 1 at most.
 const DOUBLINGS: u32 = 62;
 
-// A power of two that is not below a number, if it is near enough to 1.
+// The least power of two from 2^-62 to 2^61 that is not below a number above 0; 2^-62 if there is none.
 fn power_from(number: f64) -> Option<Frac> {
     let mut power = 1i128;
     let mut reach = 1.0f64;
@@ -28,7 +28,8 @@ fn power_from(number: f64) -> Option<Frac> {
     Frac::new(1, power).ok()
 }
 
-// The shift that a reduced cost needs at this status.
+// What is added to a cost so that the reduced cost is no longer wrong for its status: a power of two or its opposite.
+// None where it is not wrong, and for a column that is basic or at 0.
 fn shift_of(status: Status, reduced: f64) -> Option<Frac> {
     let is_wrong = match status {
         Status::Basic | Status::AtZero => false,
@@ -46,7 +47,8 @@ fn shift_of(status: Status, reduced: f64) -> Option<Frac> {
     }
 }
 
-/// Shifts the costs of the columns whose reduced cost is wrong.
+/// Shifts the costs of the columns whose reduced cost is wrong for their status, so that it is right. Says whether a
+/// cost was shifted.
 pub(crate) fn shift(costs: &mut [Frac], statuses: &[Status], reduced: &[f64]) -> bool {
     let mut is_any = false;
     for (k, cost) in costs.iter_mut().enumerate() {

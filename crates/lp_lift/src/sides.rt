@@ -16,7 +16,7 @@ pub(crate) fn part(list: &[Frac], k: usize) -> Frac {
 
 // ---- of the point
 
-// What the logicals of the kernel's rows have.
+// The values of the logical columns of the kernel's rows, in the order of these rows.
 fn logical_values(
     alloc: Global,
     program: &Program<'_>,
@@ -30,7 +30,8 @@ fn logical_values(
     Ok(list)
 }
 
-// Takes a column at this value off the rows of the kernel. Whether all is within the limit.
+// Subtracts a column's entries times its value from the numbers of the kernel's rows. Says whether all stay within 127
+// bits.
 fn take_column(list: &mut [Frac], entries: &[(u32, Frac)], kernel: &Kernel, value: Frac) -> bool {
     for (i, entry) in entries {
         if let Some(place) = place_at(&kernel.row_places, *i as usize) {
@@ -45,7 +46,8 @@ fn take_column(list: &mut [Frac], entries: &[(u32, Frac)], kernel: &Kernel, valu
     true
 }
 
-// Takes the columns that are not basic off the rows of the kernel. Whether all is within the limit.
+// Subtracts the entries of the nonbasic structural columns, times their values, from the numbers of the kernel's rows.
+// Says whether all stay within 127 bits.
 fn take_columns(
     list: &mut [Frac],
     program: &Program<'_>,
@@ -62,7 +64,7 @@ fn take_columns(
     true
 }
 
-// Each number times the scale of its row, if all are within the limit.
+// Each number times the scale of its row; none where a product is past 127 bits.
 fn scaled(
     alloc: Global,
     list: &[Frac],
@@ -79,7 +81,7 @@ fn scaled(
     Ok(Some(products))
 }
 
-// A fraction times a whole number, if it is within the limit.
+// A fraction times a whole number; none where the product is past 127 bits.
 fn times_whole(v: Frac, n: i128) -> Option<Frac> {
     if n == 1 || is_zero(v) {
         return Some(v);
@@ -111,12 +113,13 @@ pub(crate) fn right_sides(
 
 // ---- of the multipliers
 
-/// The multiplier of a row whose logical is basic: what makes its reduced cost 0.
+/// The multiplier of row `i`, if its logical is basic: the opposite of the logical's cost, which makes its reduced cost
+/// 0.
 pub(crate) fn of_logical(program: &Program<'_>, costs: &[Frac], i: usize) -> Frac {
     neg(part(costs, program.cols().wrapping_add(i)))
 }
 
-/// The multipliers of all rows whose logical is basic, and the opposites of the other logicals' costs.
+/// For each row the opposite of its logical's cost: the row's multiplier, where the logical is basic.
 pub(crate) fn of_logicals(
     alloc: Global,
     program: &Program<'_>,
@@ -129,7 +132,8 @@ pub(crate) fn of_logicals(
     Ok(list)
 }
 
-// What a column costs without the rows whose logical is basic, if all is within the limit.
+// The cost of column `j` less its entries times the multipliers of the rows whose logical is basic. None where it is
+// past 127 bits.
 fn cost_left(program: &Program<'_>, kernel: &Kernel, costs: &[Frac], j: usize) -> Option<Frac> {
     let mut left = part(costs, j);
     for (i, entry) in program.entries(j) {
@@ -144,8 +148,8 @@ fn cost_left(program: &Program<'_>, kernel: &Kernel, costs: &[Frac], j: usize) -
     Some(left)
 }
 
-/// What the basic columns of a kernel cost without the rows whose logical is basic, on one denominator. There is nothing
-/// where a number is past the limit.
+/// The costs of the kernel's columns, less their entries times the multipliers of the rows whose logical is basic, on
+/// one denominator. None where a number is past the limit.
 pub(crate) fn costs_left(
     alloc: Global,
     program: &Program<'_>,

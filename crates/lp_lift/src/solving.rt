@@ -8,7 +8,7 @@ use lp_sparse::wide::{Words, product, times_wide};
 use lp_sparse::{Solved, System, Whole, lifted_solution};
 use std::alloc::{AllocError, Global};
 
-// Makes the denominator of a solution so many times as large.
+// Multiplies the denominator of a solution by the number `by`.
 fn over(alloc: Global, solved: &mut Solved, by: &[u64]) -> Result<(), AllocError> {
     if let [1] = by {
         return Ok(());
@@ -17,8 +17,8 @@ fn over(alloc: Global, solved: &mut Solved, by: &[u64]) -> Result<(), AllocError
     Ok(())
 }
 
-/// What the basic structural columns have where the columns that are not basic have these values: their numbers, in the
-/// order of the kernel's columns.
+/// Solves for the kernel's columns, where the nonbasic columns have these values. Their values are in the kernel's
+/// order. None where the sides are too wide or lifting finds no solution.
 pub(crate) fn solve_columns(
     alloc: Global,
     program: &Program<'_>,
@@ -42,7 +42,7 @@ pub(crate) fn solve_columns(
     Ok(Some(solved))
 }
 
-// A magnitude times the scale of a row.
+// A natural number times the scale of row `i`.
 fn times_scale(
     alloc: Global,
     scales: &Scales,
@@ -58,7 +58,7 @@ fn times_scale(
     }
 }
 
-// Makes each numerator so many times as large as the scale of its row says.
+// Multiplies each numerator by the scale of its row in the kernel.
 fn scale_numerators(
     alloc: Global,
     prepared: &Prepared,
@@ -70,8 +70,8 @@ fn scale_numerators(
     Ok(())
 }
 
-/// The multipliers of the kernel's rows, in their order, with which the basic columns cost nothing, from what each column
-/// costs.
+/// Solves for the multipliers of the kernel's rows, with which the basic columns' reduced costs are 0 for these costs.
+/// None where the sides are too wide or lifting finds no solution.
 pub(crate) fn solve_rows(
     alloc: Global,
     program: &Program<'_>,

@@ -26,7 +26,8 @@ pub(crate) const FREE: Room = Room {
     below_upper: f64::INFINITY,
 };
 
-// The room of a number between bounds.
+// By how much a number over a denominator is above the lower bound and below the upper one, as floats; infinite where a
+// bound is absent.
 fn room_of(
     alloc: Global,
     number: &Whole,
@@ -59,7 +60,8 @@ fn no_sums(alloc: Global, len: usize) -> Result<Vec<Sum>, AllocError> {
     Ok(list)
 }
 
-// Adds a column at this number to the sums of the rows whose logical is basic. Whether all is within the limits.
+// Adds a column's entries times a number to the sums of the rows whose logical is basic, each times its row's scale.
+// Says whether all entries so scaled are within 127 bits.
 fn add_column(
     sums: &mut [Sum],
     entries: &[(u32, Frac)],
@@ -81,7 +83,8 @@ fn add_column(
     Ok(true)
 }
 
-// Adds the columns at these numbers to the sums. Whether all is within the limits.
+// Adds the entries of all columns, each column times its number, to the rows' sums. Says whether all entries so scaled
+// are within 127 bits.
 fn add_columns(
     sums: &mut [Sum],
     program: &Program<'_>,
@@ -116,8 +119,8 @@ fn row_sums(
     }
 }
 
-// The sums of the rows in place of the numbers of the columns, on the same denominator. There are none where a number is
-// past the limits.
+// The sums of the rows whose logical is basic, each times its row's scale, where the kernel's columns have the
+// solution's numbers and the others those of `values`; all on one denominator. None where a number is past the limits.
 fn sums_of(
     alloc: Global,
     program: &Program<'_>,
@@ -141,7 +144,7 @@ fn sums_of(
     }
 }
 
-// What the sums come to.
+// The numbers that these sums come to.
 fn numbers_of(alloc: Global, sums: Vec<Sum>) -> Result<Vec<Whole>, AllocError> {
     let mut list = Vec::with_capacity(alloc, sums.len())?;
     for sum in sums {
@@ -152,7 +155,7 @@ fn numbers_of(alloc: Global, sums: Vec<Sum>) -> Result<Vec<Whole>, AllocError> {
 
 // ---- the rooms
 
-/// Sets the distances of the basic structural columns from their bounds.
+/// Sets the rooms of the basic structural columns, in floats, from their values in the solution.
 pub(crate) fn put_rooms(
     alloc: Global,
     program: &Program<'_>,
@@ -170,7 +173,7 @@ pub(crate) fn put_rooms(
     Ok(())
 }
 
-// Sets the distances of the basic logical columns from their bounds.
+// Sets the rooms of the basic logical columns that have a bound, in floats, from the sums of their rows.
 fn put_row_rooms(
     alloc: Global,
     program: &Program<'_>,
@@ -197,8 +200,8 @@ fn put_row_rooms(
     Ok(())
 }
 
-/// The distances of each column from its bounds, by the solution and by the values of the nonbasic columns; none where
-/// a number is past the limits.
+/// The distances of each basic column from its bounds, by the solution and by the values of the nonbasic columns;
+/// infinite for each nonbasic one. There are none where a number is past the limits.
 pub(crate) fn short_rooms(
     alloc: Global,
     program: &Program<'_>,
@@ -218,7 +221,8 @@ pub(crate) fn short_rooms(
 
 // ---- reduced costs
 
-// The least common denominator of a cost and a column's entries in the rows that have a multiplier.
+// The least common denominator of a cost and a column's entries in the rows whose multiplier is not 0; none where it is
+// past 127 bits.
 fn column_scale(entries: &[(u32, Frac)], cost: Frac, multipliers: &Amounts) -> Option<i128> {
     let mut scale = den(cost);
     for (i, entry) in entries {
@@ -229,7 +233,8 @@ fn column_scale(entries: &[(u32, Frac)], cost: Frac, multipliers: &Amounts) -> O
     Some(scale)
 }
 
-// Takes a column's entries times the multipliers off a sum. Whether all is within the limits.
+// Subtracts a column's entries times the rows' multipliers from a sum, on a scale. Says whether all entries so scaled
+// are within 127 bits.
 fn take_entries(
     sum: &mut Sum,
     entries: &[(u32, Frac)],
@@ -249,7 +254,8 @@ fn take_entries(
     Ok(true)
 }
 
-// The reduced cost of a structural column.
+// The reduced cost of a structural column, as a float, from its cost and the rows' multipliers. None where a scaled
+// number is past 127 bits.
 fn reduced_cost(
     alloc: Global,
     entries: &[(u32, Frac)],
@@ -270,7 +276,8 @@ fn reduced_cost(
     Ok(Some(near(&sum.into_number(), &below)))
 }
 
-// The multipliers of all rows.
+// The multipliers of all rows on one denominator: those of the solution in the kernel's rows, else the opposites of the
+// logicals' costs. None where a number is past 127 bits.
 fn all_multipliers(
     alloc: Global,
     program: &Program<'_>,
@@ -282,7 +289,7 @@ fn all_multipliers(
     amounts_of(alloc, solved, &kernel.row_places, &others)
 }
 
-// The reduced cost of a logical column that is not basic: its cost, and the multiplier of its row.
+// The reduced cost of a nonbasic logical column, as a float: its cost plus the multiplier of row `i`.
 fn logical_reduced(
     alloc: Global,
     cost: Frac,
@@ -300,7 +307,7 @@ fn logical_reduced(
     }
 }
 
-// The reduced cost of a column, 0 of a basic one, if it is within the limits.
+// The reduced cost of column `k` as a float; 0 where it is basic. None where a number is past 127 bits.
 fn reduced_at(
     alloc: Global,
     program: &Program<'_>,
@@ -360,7 +367,7 @@ pub(crate) fn short_reduced(
 
 // ---- rates
 
-/// Sets the rates at which the basic structural columns move.
+/// Sets the rates of the basic structural columns, in floats, from the solution.
 pub(crate) fn put_rates(kernel: &Kernel, solved: &Solved, rates: &mut [f64]) {
     for (j, number) in kernel.columns.iter().zip(&solved.numerators) {
         if let Some(rate) = rates.get_mut(*j) {
@@ -369,7 +376,7 @@ pub(crate) fn put_rates(kernel: &Kernel, solved: &Solved, rates: &mut [f64]) {
     }
 }
 
-// Sets the rates at which the basic logical columns move.
+// Sets the rates of the basic logical columns, in floats, from the sums of their rows.
 fn put_row_rates(
     alloc: Global,
     program: &Program<'_>,

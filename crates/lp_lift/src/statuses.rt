@@ -19,7 +19,7 @@ pub(crate) fn put_status(statuses: &mut [Status], k: usize, status: Status) {
     }
 }
 
-/// Where a column with these bounds may stand that is not basic.
+/// The status of a nonbasic column with these bounds: at the lower one, else at the upper one, else at 0.
 pub(crate) fn resting(lower: Option<Frac>, upper: Option<Frac>) -> Status {
     if lower.is_some() {
         Status::AtLower
@@ -30,7 +30,7 @@ pub(crate) fn resting(lower: Option<Frac>, upper: Option<Frac>) -> Status {
     }
 }
 
-// The status, or another where there is no such bound.
+// The status, or that of `resting` where the column does not have the bound that it names, or is said to be at 0.
 fn fitting(status: Status, lower: Option<Frac>, upper: Option<Frac>) -> Status {
     match status {
         Status::Basic => Status::Basic,
@@ -40,7 +40,8 @@ fn fitting(status: Status, lower: Option<Frac>, upper: Option<Frac>) -> Status {
     }
 }
 
-/// Statuses of all columns of a program that fit their bounds, from those that are given.
+/// A status for each column of a program: the given one where it fits the column's bounds, else another one that does.
+/// Behind the end of the list `AtLower` is taken as given.
 pub(crate) fn fitting_statuses(
     alloc: Global,
     program: &Program<'_>,
@@ -57,7 +58,7 @@ pub(crate) fn fitting_statuses(
     Ok(list)
 }
 
-/// Where a column with this status stands, 0 where it is basic.
+/// The value of a column with this status: its bound, or 0 where it is basic, free or without the bound.
 pub(crate) fn standing(status: Status, lower: Option<Frac>, upper: Option<Frac>) -> Frac {
     let bound = match status {
         Status::AtLower => lower,

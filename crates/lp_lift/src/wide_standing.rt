@@ -15,7 +15,7 @@ use lp_sparse::Solved;
 use spec_pivot::Status;
 use std::alloc::{AllocError, Global};
 
-// The float near a number: 0 where that is 0, and only there.
+// The float near a number of any width: 0 where that is 0, and only there.
 fn near(alloc: Global, number: &Ratio) -> Result<f64, AllocError> {
     let Lowest {
         is_negative,
@@ -28,7 +28,7 @@ fn near(alloc: Global, number: &Ratio) -> Result<f64, AllocError> {
     Ok(if is_negative { -size } else { size })
 }
 
-// The float near the sum of a number and a fraction.
+// The float near the sum of a number of any width and a fraction: 0 where the sum is 0, and only there.
 fn near_sum(alloc: Global, number: &Ratio, v: Frac) -> Result<f64, AllocError> {
     let sum = number.plus(alloc, &Ratio::new(alloc, v)?)?;
     near(alloc, &sum)
@@ -36,7 +36,7 @@ fn near_sum(alloc: Global, number: &Ratio, v: Frac) -> Result<f64, AllocError> {
 
 // ---- rooms
 
-// What the rows come to at these numbers of the columns.
+// The sums of all rows where the kernel's columns have the solution's values and other columns those of `values`.
 fn row_sums(
     alloc: Global,
     program: &Program<'_>,
@@ -49,7 +49,8 @@ fn row_sums(
     evaluated(alloc, program.model, &point)
 }
 
-// The room of a row's sum.
+// By how much a row's sum is above its lower bound and below its upper one, as floats; infinite where a bound is
+// absent.
 fn room_of(
     alloc: Global,
     sum: &Ratio,
@@ -70,7 +71,7 @@ fn room_of(
     })
 }
 
-// Sets the distances of the basic logical columns from their bounds, given the sums of their rows.
+// Sets the rooms of the basic logical columns, in floats, from the sums of their rows in numbers of any width.
 fn put_row_rooms(
     alloc: Global,
     program: &Program<'_>,
@@ -87,7 +88,7 @@ fn put_row_rooms(
     Ok(())
 }
 
-// The room of each column, with numbers of any width.
+// The room of each column in floats, by numbers of any width; infinite for each nonbasic one.
 fn long_rooms(
     alloc: Global,
     program: &Program<'_>,
@@ -102,7 +103,8 @@ fn long_rooms(
     Ok(rooms)
 }
 
-/// The distances of each column from its bounds, by the solution and by the values of the nonbasic columns.
+/// The distances of each basic column from its bounds, by the solution and by the values of the nonbasic columns;
+/// infinite for each nonbasic one.
 pub(crate) fn rooms(
     alloc: Global,
     program: &Program<'_>,
@@ -121,7 +123,7 @@ pub(crate) fn rooms(
 
 // ---- rates
 
-// Sets the rates at which the basic logical columns move, given the sums of their rows.
+// Sets the rates of the basic logical columns, in floats, from the sums of their rows in numbers of any width.
 fn put_row_rates(
     alloc: Global,
     program: &Program<'_>,
@@ -173,7 +175,8 @@ pub(crate) fn rates_of(
 
 // ---- reduced costs
 
-// Sets the reduced costs of the nonbasic structural columns.
+// Sets the reduced costs of the nonbasic structural columns in floats, from those by the program's costs and the
+// difference of the costs.
 fn put_structurals(
     alloc: Global,
     program: &Program<'_>,
@@ -208,7 +211,7 @@ fn put_logicals(
     Ok(())
 }
 
-// The reduced cost of each column, with numbers of any width.
+// The reduced cost of each column as a float, by numbers of any width; 0 for each basic one.
 fn long_reduced(
     alloc: Global,
     program: &Program<'_>,
@@ -234,7 +237,8 @@ fn long_reduced(
     Ok(list)
 }
 
-/// The reduced cost of each column, 0 of the basic ones, by the multipliers of the kernel's rows.
+/// The reduced cost of each column as a float, 0 of the basic ones, by the multipliers of the kernel's rows and these
+/// costs.
 pub(crate) fn all_reduced(
     alloc: Global,
     program: &Program<'_>,
