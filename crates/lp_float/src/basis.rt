@@ -51,7 +51,7 @@ impl Drop for Basis {
     }
 }
 
-// Puts the logical columns of all rows in place of all columns.
+// Fills the list with the logical column of each row, in place of what it had.
 fn put_logicals(head: &mut Vec<usize>, program: &Program) -> Result<(), AllocError> {
     head.clear();
     for i in 0..program.rows {
@@ -60,7 +60,7 @@ fn put_logicals(head: &mut Vec<usize>, program: &Program) -> Result<(), AllocErr
     Ok(())
 }
 
-// Puts the numbers of a line into the line that is not ended.
+// Adds the numbers of a line to the open line of `lines`, which stays open.
 fn put_line(lines: &mut Lines<f64>, line: &[Entry<f64>]) -> Result<(), AllocError> {
     for entry in line {
         lines.put(entry.place, entry.value)?;
@@ -68,7 +68,7 @@ fn put_line(lines: &mut Lines<f64>, line: &[Entry<f64>]) -> Result<(), AllocErro
     Ok(())
 }
 
-// Puts a column of the program.
+// Adds column `k` of the program as the next line. A logical column has -1 in its row.
 fn put_column(lines: &mut Lines<f64>, program: &Program, k: usize) -> Result<(), AllocError> {
     if program.is_logical(k) {
         lines.put(program.row_of(k), -1.0)?;
@@ -78,7 +78,7 @@ fn put_column(lines: &mut Lines<f64>, program: &Program, k: usize) -> Result<(),
     lines.end()
 }
 
-// These columns of the program.
+// The columns of the program that are named in `head`, one line for each.
 fn columns_of(alloc: Global, program: &Program, head: &[usize]) -> Result<Lines<f64>, AllocError> {
     let mut lines = Lines::new(alloc);
     for k in head {
@@ -94,7 +94,8 @@ fn mend(head: &mut [usize], program: &Program, rows: &[usize], places: &[usize])
     }
 }
 
-// The factors of these columns. Where they are singular some columns become logical ones.
+// The factors of the columns in `head`. Where they are singular there are none, and logical columns of the rows without
+// a pivot replace the columns without one.
 fn factored_or_mended(
     alloc: Global,
     program: &Program,
@@ -121,7 +122,7 @@ fn put_places(place: &mut Vec<usize>, head: &[usize], len: usize) -> Result<(), 
     Ok(())
 }
 
-/// The basis of these columns. Where they are singular, logical ones come in their place.
+/// The basis of these columns, factored. Where they are singular, logical ones come in place of some, or of all.
 pub(crate) fn basis_of(
     alloc: Global,
     program: &Program,
@@ -142,7 +143,8 @@ pub(crate) fn basis_of(
 }
 
 impl Basis {
-    // Factors the columns, which are mended where they are singular. Whether that helps.
+    // Factors the columns, and mends them where they are singular, three times at most. Says whether there are factors
+    // then.
     fn is_factored(&mut self, alloc: Global, program: &Program) -> Result<bool, AllocError> {
         for _ in 0..MENDS {
             self.factors = factored_or_mended(alloc, program, &mut self.head)?;
@@ -153,7 +155,8 @@ impl Basis {
         Ok(false)
     }
 
-    // Factors the columns, or else the logical ones, which come in their place.
+    // Factors the columns, or, if mending does not help, the logical columns of all rows in their place. Notes the
+    // position of each column.
     fn factor(&mut self, alloc: Global, program: &Program) -> Result<(), AllocError> {
         if !self.is_factored(alloc, program)? {
             put_logicals(&mut self.head, program)?;
@@ -171,12 +174,12 @@ impl Basis {
         self.factor(alloc, program)
     }
 
-    /// How many columns came in since the factors were made.
+    /// How many columns came in, one for each exchange, since the factors were made.
     pub(crate) fn changes(&self) -> usize {
         self.places.len()
     }
 
-    // How many numbers the factors have.
+    // How many numbers the factors have; 0 if there are none.
     fn size(&self) -> usize {
         match &self.factors {
             Some(factors) => factors.size(),
@@ -184,7 +187,7 @@ impl Basis {
         }
     }
 
-    /// Whether new factors are due.
+    /// Whether new factors are due: after 100 changes, or where the changes have many more numbers than the factors.
     pub(crate) fn is_long(&self) -> bool {
         let rows = self.head.len().wrapping_mul(3);
         let most = self.size().wrapping_mul(2).wrapping_add(rows);
@@ -236,7 +239,8 @@ impl Basis {
         }
     }
 
-    // Notes a column that comes in at a position.
+    // Notes the numbers of a column that comes in at a position, without the pivot and without tiny ones, as the next
+    // change.
     fn note(&mut self, place: usize, column: &Sparse<f64>) -> Result<(), AllocError> {
         for p in &column.places {
             let number = at(&column.numbers, *p);

@@ -13,20 +13,23 @@ use std::alloc::{AllocError, Global};
 // The least weight of a position.
 const LEAST_WEIGHT: f64 = 1e-4;
 
-// How far a number of the tableau may be off by its row from that by its column, before the factors are made anew, and
-// with new factors.
+// How far a number of the tableau by its row may be off from that by its column, beside 1 and the number, before the
+// factors are made anew.
 const APART: f64 = 1e-7;
 
+// How far the two may be off with new factors, beside the number, before the pivot is refused.
 const FAR_APART: f64 = 0.1;
 
-// How much larger than a number that turned out to be none a pivot is then, and up to which number that is tried.
+// How many times as large as a number that turned out to be no pivot a pivot is until the next exchange.
 const LARGER: f64 = 10.0;
 
+// Past this size of a number that turned out to be no pivot, the run is lost.
 const MOST_LEAST: f64 = 1e-3;
 
-// How much larger than its weight a norm may be, and how often in a row others are looked for then.
+// Past this many times its weight, the squared norm of a leaving position's row lets another position be looked for.
 const OFF: f64 = 4.0;
 
+// How often in a row another leaving position is looked for, at most.
 const RETRIES: u32 = 8;
 
 /// How a run of the dual method ended.
@@ -42,7 +45,7 @@ pub(crate) enum DualEnd {
     Lost,
 }
 
-// What came of a step.
+// What came of a step of the dual method: it is done, it needs new factors, or the run ends.
 #[derive(Clone, Copy)]
 enum DualStep {
     Done,
@@ -59,7 +62,8 @@ struct Pivot {
     entering: usize,
 }
 
-// The position whose column leaves: that whose squared distance from its bounds is greatest over its weight.
+// The position whose column leaves: that whose squared distance from its bounds is greatest over its weight. None if
+// all are within their bounds.
 fn leaving(state: &State) -> Option<usize> {
     let mut found = None;
     let mut most = 0.0;
@@ -72,7 +76,7 @@ fn leaving(state: &State) -> Option<usize> {
     found
 }
 
-// Moves the reduced costs along the row.
+// Subtracts `step` times the row of the tableau from the reduced costs.
 fn move_reduced(state: &mut State, step: f64) {
     let row = &state.room.row;
     for k in &row.places {
@@ -80,7 +84,7 @@ fn move_reduced(state: &mut State, step: f64) {
     }
 }
 
-/// Gives the columns that take part in an exchange, and all others, their reduced costs after it.
+/// Brings all reduced costs to those after an exchange, by the row of the tableau at the leaving position.
 pub(crate) fn exchange_reduced(state: &mut State, entering: usize, leaving: usize) {
     let step = at(&state.reduced, entering) / at(&state.room.row.numbers, entering);
     move_reduced(state, step);
@@ -88,8 +92,8 @@ pub(crate) fn exchange_reduced(state: &mut State, entering: usize, leaving: usiz
     put(&mut state.reduced, leaving, -step);
 }
 
-// Moves the columns to their other bounds. The change in each row, for which the basic columns have to make up, is
-// added to `by_row`.
+// Moves these nonbasic columns to their other bounds. What the basic columns have to make up for in each row, the
+// opposite of the change, is added to `by_row`.
 fn turn_all(state: &mut State, program: &Program, flips: &[usize]) -> Result<(), AllocError> {
     for k in flips {
         let before = at(&state.value, *k);
@@ -100,7 +104,7 @@ fn turn_all(state: &mut State, program: &Program, flips: &[usize]) -> Result<(),
     Ok(())
 }
 
-// Adds a solution to the values of the basic columns.
+// Adds the numbers of the solution in `other` to the values of the basic columns at their positions.
 fn add_solution(state: &mut State) {
     for n in 0..state.room.other.places.len() {
         let p = index_at(&state.room.other.places, n);
@@ -113,7 +117,7 @@ fn add_solution(state: &mut State) {
     }
 }
 
-// Turns columns, and moves the basic ones with them.
+// Moves these nonbasic columns to their other bounds, and the basic columns so that the rows still hold.
 fn flip_all(state: &mut State, program: &Program, flips: &[usize]) -> Result<(), AllocError> {
     if flips.is_empty() {
         return Ok(());
@@ -127,7 +131,7 @@ fn flip_all(state: &mut State, program: &Program, flips: &[usize]) -> Result<(),
     Ok(())
 }
 
-/// Moves the entering column by a step, and the basic ones with it.
+/// Adds `step` to the value of the entering column, and moves the basic columns so that the rows still hold.
 pub(crate) fn move_values(state: &mut State, entering: usize, step: f64) {
     for n in 0..state.room.column.places.len() {
         let p = index_at(&state.room.column.places, n);
@@ -141,7 +145,8 @@ pub(crate) fn move_values(state: &mut State, entering: usize, step: f64) {
     add_at(&mut state.value, entering, step);
 }
 
-// Updates the weights of the positions where the entering column has numbers.
+// Brings the weight of each position where the entering column has a number to that after the exchange, but for the
+// leaving position.
 fn update_all(state: &mut State, pivot: f64, norm: f64) {
     let Room { column, other, .. } = &state.room;
     for p in &column.places {
@@ -155,7 +160,8 @@ fn update_all(state: &mut State, pivot: f64, norm: f64) {
     }
 }
 
-// The weights after the exchange.
+// Brings the weights of the dual steepest edge to those after the exchange at `place`. `norm` is the squared norm of
+// that row of the inverse.
 fn update_weights(state: &mut State, place: usize, norm: f64) -> Result<(), AllocError> {
     copy_to(&mut state.room.by_row, &state.room.inverse_row)?;
     state
@@ -168,7 +174,7 @@ fn update_weights(state: &mut State, place: usize, norm: f64) -> Result<(), Allo
     Ok(())
 }
 
-/// Makes the entering column basic at the position of the leaving one, which goes to a bound.
+/// Makes the entering column basic at the position of the leaving one, which goes to the bound `to`. Counts a step.
 pub(crate) fn exchange(
     state: &mut State,
     place: usize,
@@ -186,14 +192,14 @@ pub(crate) fn exchange(
     Ok(())
 }
 
-// Takes all of a reduced cost away by the cost.
+// Changes the cost of column `k` so that its reduced cost becomes 0.
 fn shift(state: &mut State, k: usize) {
     let reduced = at(&state.reduced, k);
     add_at(&mut state.cost, k, -reduced);
     put(&mut state.reduced, k, 0.0);
 }
 
-// Makes the pivot that the trial found: flips, moves and exchanges columns.
+// Makes the pivot that the ratio test found: flips columns, moves values, updates weights and exchanges two columns.
 fn apply(
     state: &mut State,
     program: &Program,
@@ -223,14 +229,16 @@ fn apply(
     exchange(state, place, entering, to)
 }
 
-// Sets the weight of a position to the norm of its row. Says whether it was far off.
+// Sets the weight of a position to the squared norm of its row of the inverse. Says whether that is more than four
+// times the weight before.
 fn correct_weight(state: &mut State, place: usize, norm: f64) -> bool {
     let weight = at(&state.weight, place);
     put(&mut state.weight, place, norm.max(LEAST_WEIGHT));
     norm > OFF * weight
 }
 
-// What comes of a pivot that is none: numbers that small are none until the next exchange, if they are small at all.
+// What comes of a pivot that turned out to be too small or unsure. Numbers of up to ten times its size are no pivots
+// until the next exchange. The run is lost if the number is not small.
 fn refused(trial: &mut Trial, by_row: f64) -> DualStep {
     if by_row.abs() > MOST_LEAST {
         return DualStep::End(DualEnd::Lost);
@@ -239,7 +247,8 @@ fn refused(trial: &mut Trial, by_row: f64) -> DualStep {
     DualStep::Unsure
 }
 
-// Makes the exchange if the pivot is sure enough.
+// Makes the exchange if row and column agree on a pivot that is large enough. `Unsure` if new factors may help or
+// another pivot is wanted; else the run is lost.
 fn exchange_surely(
     state: &mut State,
     program: &Program,
@@ -296,7 +305,7 @@ fn dual_step(
     }
 }
 
-// Brings a reduced cost right: by the other bound, or by the cost.
+// Brings a wrong reduced cost right: the column goes to its other bound, if it has both; else its cost is shifted.
 fn correct(state: &mut State, k: usize) {
     if state.range(k) < f64::INFINITY {
         state.turn(k);
@@ -305,7 +314,7 @@ fn correct(state: &mut State, k: usize) {
     }
 }
 
-// Brings all reduced costs right that are wrong.
+// Brings all wrong reduced costs right, by other bounds or by shifts of costs.
 fn correct_all(state: &mut State) {
     for k in 0..state.status.len() {
         if state.wrong(k) > state.limits.dual {
@@ -323,7 +332,8 @@ fn rebuild(alloc: Global, state: &mut State, program: &Program) -> Result<(), Al
     evaluate(state, program)
 }
 
-// Takes steps of the dual method until its end.
+// Takes steps of the dual method until its end, or until `effort` steps are spent. New factors are made where they are
+// due.
 fn dual_steps(
     alloc: Global,
     state: &mut State,
@@ -351,8 +361,8 @@ fn dual_steps(
     Ok(DualEnd::Spent)
 }
 
-/// Runs the dual method. Reduced costs that are wrong at its beginning are made right by the other bounds or by the costs of
-/// the state.
+/// Runs the dual method from the state's basis to its end, until the state has taken `effort` steps in all. Reduced
+/// costs that are wrong at its beginning are made right by the other bounds or by the costs of the state.
 pub(crate) fn run_dual(
     alloc: Global,
     state: &mut State,

@@ -5,15 +5,16 @@ use crate::state::{State, status_at};
 use spec_pivot::Status;
 use std::alloc::{AllocError, Global};
 
-// A number of the row that is no pivot, and what part of the norm of the inverse's row is none: less of that may be 0.
+// A number of the row of up to this size is no pivot.
 pub(crate) const NO_PIVOT: f64 = 1e-9;
 
+// Nor is one of up to this part of the norm of the inverse's row: it may be 0 but for rounding.
 const NOISE: f64 = 1e-14;
 
-// How many groups are looked at.
+// How many groups of candidates a ratio test takes at most.
 const GROUPS: u32 = 60;
 
-// What part of the greatest number a pivot has at least, up to 1.
+// What part of the greatest candidate's number a pivot is at least; but 1 always is enough.
 const PART: f64 = 0.1;
 
 // A column that may enter: its number in the row and its reduced cost, both turned so that they are above 0, and how far
@@ -71,7 +72,8 @@ impl Trial {
     }
 }
 
-// The way in which a column may move: up (1), down (-1), or by the sign of its number where it is at no bound.
+// The way in which a nonbasic column may move: up (1), down (-1), or by the sign of its number where it is free. 0 if
+// it is basic.
 fn way(status: Status, number: f64) -> f64 {
     match status {
         Status::AtLower => 1.0,
@@ -82,7 +84,8 @@ fn way(status: Status, number: f64) -> f64 {
     }
 }
 
-// The candidate that a column is, if it is one: if its number is past the least one that counts.
+// A column as a candidate. None if its bounds are the same, or if its number in the row, turned by its status, is not
+// above `least`.
 fn candidate_of(state: &State, column: usize, turn: f64, least: f64) -> Option<Candidate> {
     let number = at(&state.room.row.numbers, column) * turn;
     let way = way(status_at(&state.status, column), number);
@@ -99,7 +102,8 @@ fn candidate_of(state: &State, column: usize, turn: f64, least: f64) -> Option<C
     }
 }
 
-// Collects the columns that may enter, with their costs and numbers.
+// Empties the trial, and collects the columns that may enter: those of the row whose numbers have the right sign and
+// are above `least`.
 fn collect(state: &State, turn: f64, least: f64, trial: &mut Trial) -> Result<(), AllocError> {
     trial.waiting.clear();
     trial.taken.clear();
@@ -113,7 +117,7 @@ fn collect(state: &State, turn: f64, least: f64, trial: &mut Trial) -> Result<()
     Ok(())
 }
 
-// How far reduced costs may go until one of the candidates that are left is wrong by more than the tolerance.
+// How far the dual step may go until the reduced cost of one of these candidates is wrong by more than the tolerance.
 fn reach(waiting: &[Candidate], tolerance: f64) -> f64 {
     let mut least = f64::INFINITY;
     for candidate in waiting {
@@ -123,14 +127,15 @@ fn reach(waiting: &[Candidate], tolerance: f64) -> f64 {
     least
 }
 
-// Keeps a candidate for the next groups, at place `k` of the list.
+// Puts a candidate at place `k` of the list.
 fn keep(waiting: &mut [Candidate], k: usize, candidate: Candidate) {
     if let Some(place) = waiting.get_mut(k) {
         *place = candidate;
     }
 }
 
-// Moves the candidates within reach to the group of those that are taken. Gives the slope that is left behind them.
+// Moves the candidates that the step `reach` comes to into a group of their own among those taken. Gives the slope that
+// is left once they are at their other bounds.
 fn take(trial: &mut Trial, reach: f64, slope: f64) -> Result<f64, AllocError> {
     let mut left = slope;
     let mut kept = 0usize;
@@ -151,7 +156,7 @@ fn take(trial: &mut Trial, reach: f64, slope: f64) -> Result<f64, AllocError> {
     Ok(left)
 }
 
-// Takes groups until the slope is spent.
+// Takes groups of candidates, the nearest first, until the slope is below 0 or no candidate waits; 60 at most.
 fn take_groups(state: &State, trial: &mut Trial, slope: f64) -> Result<(), AllocError> {
     let mut left = slope;
     for _ in 0..GROUPS {
@@ -164,7 +169,7 @@ fn take_groups(state: &State, trial: &mut Trial, slope: f64) -> Result<(), Alloc
     Ok(())
 }
 
-// The candidate with the greatest number.
+// The candidate with the greatest number in the row; none if the list is empty.
 fn largest(list: &[Candidate]) -> Option<Candidate> {
     let mut found = None;
     let mut most = 0.0;
@@ -186,7 +191,7 @@ fn first(trial: &Trial, group: usize) -> usize {
     }
 }
 
-// The candidates of a group.
+// The candidates of a group; none if there is no such group.
 fn members(trial: &Trial, group: usize) -> &[Candidate] {
     match trial
         .taken
@@ -197,7 +202,8 @@ fn members(trial: &Trial, group: usize) -> &[Candidate] {
     }
 }
 
-// The last group with a number that is large enough, and its candidate.
+// The last group whose greatest number is at least `least`, and the candidate with that number. None if there is no
+// such group.
 fn pick(trial: &Trial, least: f64) -> Option<(usize, Candidate)> {
     for group in (0..trial.ends.len()).rev() {
         if let Some(candidate) = largest(members(trial, group)) {
@@ -209,7 +215,7 @@ fn pick(trial: &Trial, least: f64) -> Option<(usize, Candidate)> {
     None
 }
 
-// Notes the columns of the groups before as those that go to their other bounds.
+// Notes the columns with both bounds in the groups before this one as those that go to their other bounds.
 fn note_flips(trial: &mut Trial, group: usize) -> Result<(), AllocError> {
     let end = first(trial, group);
     for candidate in trial.taken.iter().take(end) {
@@ -220,8 +226,8 @@ fn note_flips(trial: &mut Trial, group: usize) -> Result<(), AllocError> {
     Ok(())
 }
 
-/// The column that enters where the leaving one is outside by so much, if there is one. The row of the inverse has this square
-/// of its norm.
+/// The column that enters, if one may. The leaving column is `outside` of its bounds: above 0 if it is above them.
+/// `square` is the squared norm of its row of the inverse. The trial gets the columns that flip.
 pub(crate) fn choose(
     state: &State,
     outside: f64,

@@ -10,15 +10,17 @@ use lp_model::Model;
 use spec_pivot::Status;
 use std::alloc::{AllocError, Global};
 
-// How many steps a run takes at most: so many for each column, structural or logical, and so many more.
+// How many steps a run takes at most for each column, structural or logical.
 const STEPS_EACH: u64 = 20;
 
+// How many more steps a run takes at most, however many columns there are.
 const MORE_STEPS: u64 = 1000;
 
 // How many columns the steps of a run go over at most, in all: about an hour of them.
 const WORK: u64 = 30_000_000_000;
 
-// How many steps a run takes at most.
+// How many steps a run takes at most: 20 for each column of the program and 1,000 more, or fewer, so that these many
+// steps times the columns stay within `WORK`.
 fn effort(program: &Program) -> u64 {
     let columns = (program.len() as u64).max(1);
     let steps = columns
@@ -38,7 +40,7 @@ fn fitted(alloc: Global, model: &Model, statuses: &[Status]) -> Result<Vec<Statu
     Ok(list)
 }
 
-// The end of a run from these statuses, or from the logical basis, if it has one.
+// The end of a run from these statuses, or from the logical basis where there are none; `None` where the run gives up.
 fn end_from(
     alloc: Global,
     program: &Program,
@@ -53,7 +55,7 @@ fn end_from(
     }
 }
 
-// The end with a status for each column and each row of a model.
+// The end, if there is one, with a status for each column and each row of a model.
 fn fitted_end(
     alloc: Global,
     model: &Model,

@@ -11,14 +11,14 @@ use std::num::nearest_u64_to_f64;
 // 2^64.
 const WORD: f64 = 18446744073709551616.0;
 
-// The float near a magnitude.
+// The float near a natural number of 128 bits.
 fn near(n: u128) -> f64 {
     let high = (n >> 64) as u64;
     let low = (n & 0xffff_ffff_ffff_ffff) as u64;
     nearest_u64_to_f64(high) * WORD + nearest_u64_to_f64(low)
 }
 
-// The float near a fraction.
+// The float near a fraction, with its sign.
 fn float(v: Frac) -> f64 {
     let magnitude = near(num(v).unsigned_abs()) / near(den(v).unsigned_abs());
     if is_negative(v) {
@@ -28,7 +28,7 @@ fn float(v: Frac) -> f64 {
     }
 }
 
-// A bound, or what stands for none.
+// A bound as a float, or `none` where it is absent.
 fn bound_or(bound: Option<Frac>, none: f64) -> f64 {
     match bound {
         Some(bound) => float(bound),
@@ -36,7 +36,7 @@ fn bound_or(bound: Option<Frac>, none: f64) -> f64 {
     }
 }
 
-// The cost in the least sense.
+// The cost as one to be made least: negated where the model is to be maximized.
 fn signed(sense: Sense, cost: f64) -> f64 {
     match sense {
         Sense::Min => cost,
@@ -44,7 +44,7 @@ fn signed(sense: Sense, cost: f64) -> f64 {
     }
 }
 
-// A program with no columns yet.
+// A program of the model's sizes, with no columns, bounds or costs yet.
 fn empty_program(alloc: Global, model: &Model) -> Program {
     Program {
         rows: model.rows() as usize,
@@ -57,7 +57,7 @@ fn empty_program(alloc: Global, model: &Model) -> Program {
     }
 }
 
-// Adds a column's bounds and its cost.
+// Adds one column's bounds and its cost at the end of the program's lists.
 fn add_column(program: &mut Program, lower: f64, upper: f64, cost: f64) -> Result<(), AllocError> {
     program.lower.push(lower)?;
     program.upper.push(upper)?;

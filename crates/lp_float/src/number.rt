@@ -18,7 +18,7 @@ pub(crate) fn put(list: &mut [f64], k: usize, number: f64) {
     }
 }
 
-/// Adds to the number at `k`, if the list is that long.
+/// Adds `more` to the number at `k`, if the list is that long.
 #[inline(always)]
 pub(crate) fn add_at(list: &mut [f64], k: usize, more: f64) {
     if let Some(place) = list.get_mut(k) {
@@ -35,7 +35,7 @@ pub(crate) fn index_at(list: &[usize], k: usize) -> usize {
     }
 }
 
-/// The flag at `k`, set where there is none.
+/// The flag at `k`; true where there is none.
 #[inline(always)]
 pub(crate) fn flag_at(list: &[bool], k: usize) -> bool {
     match list.get(k) {
@@ -66,7 +66,7 @@ pub(crate) fn copy(list: &mut [f64], from: &[f64]) {
     }
 }
 
-/// The sum of products with a sparse line.
+/// The sum of the numbers of a sparse line, each times the list's number at its place.
 #[inline(always)]
 pub(crate) fn product(list: &[f64], line: &[Entry<f64>]) -> f64 {
     let mut sum = 0.0;
@@ -85,7 +85,7 @@ pub(crate) fn greatest(list: &[f64]) -> f64 {
     most
 }
 
-/// A number from 0 up to below 1, another one for each seed.
+/// A number that looks random, from 0 up to below 1, by the seed.
 pub(crate) fn mixed(seed: u64) -> f64 {
     let mut bits = seed.wrapping_add(0x9e37_79b9_7f4a_7c15);
     bits = (bits ^ (bits >> 30)).wrapping_mul(0xbf58_476d_1ce4_e5b9);

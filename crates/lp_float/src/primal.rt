@@ -10,13 +10,14 @@ use crate::sparse::add_to;
 use crate::state::{State, refactor};
 use std::alloc::{AllocError, Global};
 
-// How far a number of the tableau may be off by its row from that by its column, before the factors are made anew, and
-// with new factors.
+// How far a number of the tableau by its row may be off from that by its column, beside 1 and the number, before the
+// factors are made anew.
 const APART: f64 = 1e-7;
 
+// How far the two may be off with new factors, beside the number, before the run is lost.
 const FAR_APART: f64 = 0.1;
 
-// The greatest weight of a column.
+// Past this weight of a column, all weights begin anew at 1.
 const MOST_WEIGHT: f64 = 1e12;
 
 /// How a run of the primal method ended.
@@ -33,7 +34,7 @@ pub(crate) enum PrimalEnd {
     Lost,
 }
 
-// What came of a step.
+// What came of a step of the primal method: it is done, it needs new factors, or the run ends.
 #[derive(Clone, Copy)]
 enum PrimalStep {
     Done,
@@ -42,7 +43,7 @@ enum PrimalStep {
     End(PrimalEnd),
 }
 
-// The cost of a basic column in the sum of infeasibilities.
+// The cost of a basic column in the sum of infeasibilities: 1 above its bounds, -1 below them, 0 within the tolerance.
 fn sign(outside: f64, tolerance: f64) -> f64 {
     if outside > tolerance {
         1.0
@@ -67,7 +68,8 @@ fn put_signs(state: &mut State) -> Result<bool, AllocError> {
     Ok(!state.room.by_place.places.is_empty())
 }
 
-// Prices the sum of infeasibilities, if there is one.
+// Sets the reduced costs by the sum of infeasibilities, if a basic column is outside of its bounds. Says whether one
+// is.
 fn price_outside(state: &mut State, program: &Program) -> Result<bool, AllocError> {
     let is_outside = put_signs(state)?;
     if is_outside {
@@ -77,7 +79,8 @@ fn price_outside(state: &mut State, program: &Program) -> Result<bool, AllocErro
     Ok(is_outside)
 }
 
-// The column that enters: that with the greatest square of its wrong reduced cost over its reference weight.
+// The column that enters: that with the greatest square of its wrong reduced cost over its reference weight. None if no
+// reduced cost is wrong beyond the tolerance.
 fn priced(state: &State) -> Option<usize> {
     let mut found = None;
     let mut most = 0.0;
@@ -94,7 +97,8 @@ fn priced(state: &State) -> Option<usize> {
     found
 }
 
-// Raises the weights of the columns that the row has numbers for. The greatest of them.
+// Raises the reference weights of the columns with numbers in the row of the tableau, where they are too small. Gives
+// the greatest weight so found.
 fn raise_weights(state: &mut State, pivot: f64, own: f64) -> f64 {
     let row = &state.room.row;
     let mut most = 0.0;
@@ -109,7 +113,7 @@ fn raise_weights(state: &mut State, pivot: f64, own: f64) -> f64 {
     most
 }
 
-// The weights after the exchange. Where they are too large to tell columns apart, they begin anew.
+// Brings the reference weights to those after the exchange. If one is too large all begin anew at 1.
 fn update_weights(state: &mut State, entering: usize, leaving: usize) {
     let pivot = at(&state.room.row.numbers, entering);
     let own = at(&state.reference, entering);
@@ -129,7 +133,7 @@ struct Entering {
     is_outside: bool,
 }
 
-// Makes the exchange if the pivot is sure enough.
+// Makes the exchange if row and column agree on the pivot. `Unsure` if new factors may help; else the run is lost.
 fn exchange_surely(
     state: &mut State,
     program: &Program,
@@ -159,14 +163,16 @@ fn exchange_surely(
     Ok(PrimalStep::Done)
 }
 
-// Sends the entering column to its other bound.
+// Sends the entering column to its other bound, at the distance `range`, and moves the basic columns with it. Counts a
+// step.
 fn flip(state: &mut State, entering: Entering, range: f64) {
     move_values(state, entering.column, entering.way * range);
     state.turn(entering.column);
     state.steps = state.steps.wrapping_add(1);
 }
 
-// Moves the entering column until a basic one or its other bound stops it.
+// Moves the entering column until a basic one or its own other bound stops it: an exchange or a flip. It is `Unbounded`
+// where nothing does, with new factors and no value outside.
 fn advance(
     state: &mut State,
     program: &Program,
@@ -186,7 +192,8 @@ fn advance(
     }
 }
 
-// What it means that no column enters.
+// What it means that no column enters: with new factors an optimum, or infeasible if values are outside; else new
+// factors are needed first.
 fn at_rest(state: &State, is_outside: bool) -> PrimalStep {
     if state.basis.changes() > 0 {
         PrimalStep::Unsure
@@ -197,7 +204,8 @@ fn at_rest(state: &State, is_outside: bool) -> PrimalStep {
     }
 }
 
-// One step. `was_outside` says whether values were outside at the step before.
+// One step of the primal method: prices, takes the entering column, and exchanges or flips. `was_outside` says whether
+// values were outside at the step before, and is brought up to date.
 fn primal_step(
     state: &mut State,
     program: &Program,
@@ -235,7 +243,7 @@ fn rebuild(alloc: Global, state: &mut State, program: &Program) -> Result<(), Al
     reduce(state, program)
 }
 
-/// Runs the primal simplex method in floats from the state's basis, for at most `effort` steps.
+/// Runs the primal method in floats from the state's basis to its end, until the state has taken `effort` steps in all.
 pub(crate) fn run_primal(
     alloc: Global,
     state: &mut State,

@@ -3,7 +3,7 @@ use crate::number::{at, index_at};
 use crate::state::State;
 use spec_pivot::Status;
 
-// A rate that is none.
+// A rate of up to this size is taken for 0.
 const NO_RATE: f64 = 1e-9;
 
 /// The position that blocks, how far the entering column goes until then, and the bound that the leaving one is at.
@@ -15,7 +15,7 @@ pub(crate) struct Block {
 }
 
 // The bound that stops a column that goes up, and the distance to it. One that is below its bounds passes the lower
-// one, if it has an upper one.
+// one, if it has an upper one. None where it is above the upper one, or has none and is not below the lower one.
 fn goal_above(state: &State, k: usize) -> Option<(f64, Status)> {
     let value = at(&state.value, k);
     let upper = at(&state.upper, k);
@@ -34,7 +34,7 @@ fn goal_above(state: &State, k: usize) -> Option<(f64, Status)> {
 }
 
 // The bound that stops a column that goes down, and the distance to it. One that is above its bounds passes the upper
-// one, if it has a lower one.
+// one, if it has a lower one. None where it is below the lower one, or has none and is not above the upper one.
 fn goal_below(state: &State, k: usize) -> Option<(f64, Status)> {
     let value = at(&state.value, k);
     let upper = at(&state.upper, k);
@@ -52,7 +52,8 @@ fn goal_below(state: &State, k: usize) -> Option<(f64, Status)> {
     }
 }
 
-// The bound that stops a basic column that moves at this rate, and the distance to it.
+// The bound that stops basic column `k` when it moves at this rate, and the distance to it. None if none does, or the
+// rate is tiny.
 fn goal(state: &State, k: usize, rate: f64) -> Option<(f64, Status)> {
     if rate > NO_RATE {
         goal_above(state, k)
@@ -63,7 +64,7 @@ fn goal(state: &State, k: usize, rate: f64) -> Option<(f64, Status)> {
     }
 }
 
-// How far the entering column may go, with the bounds a little wider.
+// How far the entering column may go until a basic one is beyond its bounds by the tolerance; infinite where none is.
 fn reach(state: &State, way: f64) -> f64 {
     let mut least = f64::INFINITY;
     let column = &state.room.column;
@@ -78,7 +79,8 @@ fn reach(state: &State, way: f64) -> f64 {
     least
 }
 
-/// The position that blocks, if one does: that with the greatest rate of those within reach.
+/// What blocks the entering column, which goes up (`way` is 1) or down (-1): of the positions within reach that with
+/// the greatest rate. None if nothing does.
 pub(crate) fn blocking(state: &State, way: f64) -> Option<Block> {
     let reach = reach(state, way);
     let mut found = None;

@@ -12,7 +12,7 @@ const NOTHING: f64 = 1e-14;
 // Where more than one number in so many of a row of the inverse is not 0, the columns of the program are gone over.
 const DENSE: usize = 3;
 
-/// Adds a multiple of a column of the program to numbers by row.
+/// Adds `times` times a column of the program to numbers by row. A logical column has -1 in its row.
 pub(crate) fn add_column(
     list: &mut Sparse<f64>,
     program: &Program,
@@ -26,7 +26,7 @@ pub(crate) fn add_column(
     }
 }
 
-// What the columns that are not basic leave for the basic ones.
+// Sets the right sides, by row, that the nonbasic columns at their values leave for the basic ones.
 fn put_rest(state: &mut State, program: &Program) -> Result<(), AllocError> {
     state.room.by_row.clear();
     for k in 0..program.len() {
@@ -38,7 +38,7 @@ fn put_rest(state: &mut State, program: &Program) -> Result<(), AllocError> {
     Ok(())
 }
 
-// Gives the basic columns the values of a solution.
+// Gives the basic columns the values of the solution in `other`.
 fn put_values(state: &mut State) {
     for p in 0..state.basis.head.len() {
         let k = index_at(&state.basis.head, p);
@@ -47,7 +47,7 @@ fn put_values(state: &mut State) {
     }
 }
 
-/// Gives each basic column its value.
+/// Gives each basic column its value, by the factors, from the values of the nonbasic columns.
 pub(crate) fn evaluate(state: &mut State, program: &Program) -> Result<(), AllocError> {
     put_rest(state, program)?;
     state
@@ -69,7 +69,7 @@ fn put_costs(state: &mut State) -> Result<(), AllocError> {
     Ok(())
 }
 
-// Takes the multipliers' part off the reduced costs.
+// Subtracts the multipliers times its column from each reduced cost. That of a basic column becomes 0.
 fn take_products(state: &mut State, program: &Program) {
     for k in 0..program.len() {
         let part = if state.is_basic(k) {
@@ -83,7 +83,7 @@ fn take_products(state: &mut State, program: &Program) {
     }
 }
 
-/// Finds the multipliers for the costs that stand by position, and takes their part off the reduced costs.
+/// Finds the multipliers for the costs in `by_place`, and subtracts them times its column from each reduced cost.
 pub(crate) fn price(state: &mut State, program: &Program) -> Result<(), AllocError> {
     state
         .basis
@@ -92,14 +92,14 @@ pub(crate) fn price(state: &mut State, program: &Program) -> Result<(), AllocErr
     Ok(())
 }
 
-/// Gives each column its reduced cost.
+/// Gives each column its reduced cost by the costs of the state; 0 to a basic one.
 pub(crate) fn reduce(state: &mut State, program: &Program) -> Result<(), AllocError> {
     put_costs(state)?;
     copy(&mut state.reduced, &state.cost);
     price(state, program)
 }
 
-/// Solves for a column of the program, by position.
+/// Solves for column `k` of the program: `room.column` becomes its numbers in the tableau, by position.
 pub(crate) fn solve_column(
     state: &mut State,
     program: &Program,
@@ -112,7 +112,7 @@ pub(crate) fn solve_column(
         .solve(&mut state.room.by_row, &mut state.room.column)
 }
 
-/// Finds the row of the inverse at a position.
+/// Finds the row of the inverse at a position, by row of the program, into `room.inverse_row`.
 pub(crate) fn solve_unit(state: &mut State, place: usize) -> Result<(), AllocError> {
     state.room.by_place.clear();
     add_to(&mut state.room.by_place, place, 1.0)?;
@@ -121,7 +121,7 @@ pub(crate) fn solve_unit(state: &mut State, place: usize) -> Result<(), AllocErr
         .solve_turned(&mut state.room.by_place, &mut state.room.inverse_row)
 }
 
-// Adds a row of the program, without the columns that never enter.
+// Adds `times` times a row of the program to the row of the tableau, without the columns that never enter.
 fn add_row(
     row: &mut Sparse<f64>,
     idle: &[bool],
@@ -136,7 +136,7 @@ fn add_row(
     Ok(())
 }
 
-// Makes the row of the tableau by the rows of the program.
+// Adds up the row of the tableau from the rows of the program for which the row of the inverse has a number.
 fn make_by_rows(state: &mut State, program: &Program) -> Result<(), AllocError> {
     let Room {
         inverse_row,
@@ -157,7 +157,7 @@ fn make_by_rows(state: &mut State, program: &Program) -> Result<(), AllocError> 
     Ok(())
 }
 
-// Makes the row of the tableau by the columns of the program.
+// Makes the row of the tableau as the product of the row of the inverse with each column that may enter.
 fn make_by_columns(state: &mut State, program: &Program) -> Result<(), AllocError> {
     let Room {
         inverse_row,
@@ -179,7 +179,7 @@ fn make_by_columns(state: &mut State, program: &Program) -> Result<(), AllocErro
     Ok(())
 }
 
-/// Makes the row of the tableau from that of the inverse.
+/// Makes the row of the tableau, by column, from the row of the inverse, without the columns that never enter.
 pub(crate) fn make_row(state: &mut State, program: &Program) -> Result<(), AllocError> {
     state.room.row.clear();
     if is_dense(&state.room.inverse_row, DENSE) {

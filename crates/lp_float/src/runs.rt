@@ -8,18 +8,19 @@ use crate::state::{Limits, State, resting, state_at, status_at};
 use spec_pivot::Status;
 use std::alloc::{AllocError, Global};
 
-// The tolerances of a run, and of its last part.
+// The tolerances of a run but for its last part.
 const LIMITS: Limits = Limits {
     primal: 1e-7,
     dual: 1e-7,
 };
 
+// The tolerances of a run's last part, and of a short run.
 const TIGHT: Limits = Limits {
     primal: 1e-9,
     dual: 1e-9,
 };
 
-// How often the dual and then the primal method are run.
+// How often the dual and then the primal method are run, at most.
 const ROUNDS: u32 = 5;
 
 // How many steps a basis is from an end that is near, at most.
@@ -60,7 +61,8 @@ impl Drop for FloatEnd {
     }
 }
 
-// The status that a column begins with.
+// The status of a column in the logical basis: basic if it is logical, else at the bound nearer to 0, or at 0 without
+// bounds.
 fn first_status(program: &Program, k: usize) -> Status {
     let lower = at(&program.lower, k);
     let upper = at(&program.upper, k);
@@ -73,7 +75,7 @@ fn first_status(program: &Program, k: usize) -> Status {
     }
 }
 
-/// The basis of the logical columns.
+/// The statuses of the basis of the logical columns, with each structural column at the bound nearer to 0.
 pub(crate) fn logical_start(alloc: Global, program: &Program) -> Result<Vec<Status>, AllocError> {
     let mut list = Vec::with_capacity(alloc, program.len())?;
     for k in 0..program.len() {
@@ -82,7 +84,8 @@ pub(crate) fn logical_start(alloc: Global, program: &Program) -> Result<Vec<Stat
     Ok(list)
 }
 
-// By how much the cost of a column is changed so that ties between columns are rare.
+// By how much the cost of a column is changed so that ties between columns are rare: up if it has a lower bound, and no
+// upper one or a cost that is not below 0; else down. 0 for logical, fixed and free columns.
 fn shift_of(program: &Program, k: usize, base: f64, seed: u64) -> f64 {
     let lower = at(&program.lower, k);
     let upper = at(&program.upper, k);
@@ -99,7 +102,8 @@ fn shift_of(program: &Program, k: usize, base: f64, seed: u64) -> f64 {
     }
 }
 
-// Moves the costs a little apart, away from where reduced costs would be wrong.
+// Sets the costs to the program's, moved a little apart, to the side on which reduced costs stay right. The costs of
+// logical, fixed and free columns are not moved.
 fn perturb(state: &mut State, program: &Program, seed: u64) {
     let most = greatest(&program.cost);
     let scale = if most > 100.0 {
@@ -113,7 +117,8 @@ fn perturb(state: &mut State, program: &Program, seed: u64) {
     }
 }
 
-// The box in place of bounds.
+// The box that replaces a column's bounds while a dual feasible basis is looked for: wide only on the sides without a
+// bound.
 fn box_of(lower: f64, upper: f64) -> (f64, f64) {
     match (lower > f64::NEG_INFINITY, upper < f64::INFINITY) {
         (true, true) => (0.0, 0.0),
@@ -132,13 +137,14 @@ fn put_boxes(state: &mut State, program: &Program) {
     }
 }
 
-// Sets the bounds of the program again.
+// Sets the state's bounds to those of the program again.
 fn put_bounds(state: &mut State, program: &Program) {
     copy(&mut state.lower, &program.lower);
     copy(&mut state.upper, &program.upper);
 }
 
-// Moves a column that is not basic to the bound that its reduced cost calls for.
+// Moves a nonbasic column to the bound that the sign of its reduced cost calls for, or to its other bound, or to 0, if
+// it lacks that.
 fn settle_by_cost(state: &mut State, k: usize) {
     let reduced = at(&state.reduced, k);
     let wanted = if reduced > 0.0 {
@@ -151,7 +157,8 @@ fn settle_by_cost(state: &mut State, k: usize) {
     state.settle(k, wanted);
 }
 
-// Moves each column that is not basic to the bound that its reduced cost calls for.
+// Moves each nonbasic column to the bound that the sign of its reduced cost calls for, or to its other bound, or to 0,
+// if it lacks that.
 fn settle_all(state: &mut State) {
     for k in 0..state.status.len() {
         if !state.is_basic(k) {
@@ -160,7 +167,8 @@ fn settle_all(state: &mut State) {
     }
 }
 
-// Finds a basis whose reduced costs are right, in boxes.
+// Looks for a basis that is dual feasible, by the dual method with boxes for bounds, and puts the bounds back. There
+// may be none.
 fn first_phase(
     alloc: Global,
     state: &mut State,
@@ -194,8 +202,8 @@ fn begin(
     Ok(())
 }
 
-// Finds a column that nothing brings within its bounds, where the sum of infeasibilities is least: the dual method with no
-// costs.
+// The end where the sum of infeasibilities is least: `Infeasible`, with a column that nothing brings within its bounds,
+// if the dual method without costs finds one.
 fn blocked(
     alloc: Global,
     state: &mut State,
@@ -209,7 +217,8 @@ fn blocked(
     }
 }
 
-// Ends with the costs as they are, by the primal method where reduced costs are wrong then.
+// Sets the program's costs, and ends: at once if all is right, else by the primal method. There is no end where the
+// numbers are of no use.
 fn finish(
     alloc: Global,
     state: &mut State,
@@ -231,7 +240,8 @@ fn finish(
     }
 }
 
-// One round of the dual method and what is left then. There is no end where the numbers were of no use.
+// One round: the dual method, and then the primal one if that is needed. There is no end where the numbers are of no
+// use.
 fn round(
     alloc: Global,
     state: &mut State,
@@ -246,7 +256,7 @@ fn round(
     }
 }
 
-// Runs rounds until there is an end.
+// Runs rounds until there is an end, five at most; then the run is given up.
 fn rounds(
     alloc: Global,
     state: &mut State,
@@ -261,7 +271,7 @@ fn rounds(
     Ok(Kind::GivenUp)
 }
 
-// Whether a run with tight tolerances ended as the run before.
+// Whether both runs ended at an optimum, or both without a limit.
 fn are_alike(kind: Kind, again: Kind) -> bool {
     matches!(
         (kind, again),
@@ -269,7 +279,8 @@ fn are_alike(kind: Kind, again: Kind) -> bool {
     )
 }
 
-// Whether tight tolerances may lead further. An end without a limit is as good as its point.
+// Whether a run with tight tolerances may lead further: from an optimum, or where the end is unbounded and a value is
+// outside.
 fn is_rough(state: &State, kind: Kind) -> bool {
     match kind {
         Kind::Optimal => true,
@@ -278,8 +289,7 @@ fn is_rough(state: &State, kind: Kind) -> bool {
     }
 }
 
-// Runs once more with tight tolerances from an optimum, or where nothing stops a column. The kind of that end, if it is
-// alike.
+// Runs a round with tight tolerances. Gives the kind of its end, if it is the same kind of end as before; else none.
 fn polish(
     alloc: Global,
     state: &mut State,
@@ -294,7 +304,7 @@ fn polish(
     }
 }
 
-// The end of a kind: with the statuses that tight tolerances lead to, if that is alike.
+// The end of a run of this kind: that of another round with tight tolerances, if it ends alike, else the one before it.
 fn last_end(
     alloc: Global,
     state: &mut State,
@@ -317,7 +327,7 @@ fn last_end(
     })
 }
 
-// The column by which there is no optimum, if one is named.
+// The column by which there is no optimum, if this end names one; none at an optimum.
 fn witness_of(kind: Kind) -> Option<usize> {
     match kind {
         Kind::Infeasible(column) => column,
@@ -326,7 +336,7 @@ fn witness_of(kind: Kind) -> Option<usize> {
     }
 }
 
-// The end of a state that has begun, if it has one.
+// Runs rounds from the state, and gives their end; none where the run is given up.
 fn end_of(
     alloc: Global,
     state: &mut State,

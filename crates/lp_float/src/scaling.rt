@@ -7,7 +7,7 @@ use std::alloc::{AllocError, Global};
 // How often the rows and then the columns are scaled.
 const PASSES: u32 = 6;
 
-// How far from 1 a power of two may be.
+// How many doublings or halvings a factor is from 1 at most.
 const DOUBLINGS: u32 = 400;
 
 // What the greatest cost is brought down to.
@@ -16,7 +16,7 @@ const COST: f64 = 1024.0;
 // Where the greatest bound is below this, it is brought up to 1.
 const BOUND: f64 = 1e-3;
 
-// A power of two near a positive number.
+// The power of two nearest to a number above 0: the number is from 3/4 of it to 3/2 of it.
 fn power_near(number: f64) -> f64 {
     let mut power = 1.0;
     for _ in 0..DOUBLINGS {
@@ -31,7 +31,8 @@ fn power_near(number: f64) -> f64 {
     power
 }
 
-// The factor that brings the numbers of a line around 1, each times the factor of its index.
+// The factor for a line: 1 over the geometric mean of its least and greatest magnitude, each number being times the
+// factor of its place. 1 for a line of zeros.
 fn line_factor(line: &[Entry<f64>], factors: &[f64]) -> f64 {
     let mut least = f64::INFINITY;
     let mut most = 0.0;
@@ -49,7 +50,7 @@ fn line_factor(line: &[Entry<f64>], factors: &[f64]) -> f64 {
     }
 }
 
-// Finds the factors of lines from those of their indices.
+// Finds the factor of each line from the factors of its numbers' places.
 fn find_factors(lines: &Lines<f64>, factors: &mut [f64], others: &[f64]) {
     for (k, factor) in factors.iter_mut().enumerate() {
         *factor = line_factor(lines.line(k), others);
@@ -63,7 +64,7 @@ fn round(factors: &mut [f64]) {
     }
 }
 
-// Finds the factors of rows and columns.
+// Finds the scaling factors of rows and columns, by turns, and rounds them to powers of two.
 fn find_all_factors(program: &Program, rows: &mut [f64], cols: &mut [f64]) {
     for _ in 0..PASSES {
         find_factors(&program.by_rows, rows, cols);
@@ -87,7 +88,7 @@ fn put_line(
     lines.end()
 }
 
-// The lines, each number times the factors of its line and of its index.
+// The lines, each number times the factor of its line and that of its place.
 fn multiplied(
     alloc: Global,
     lines: &Lines<f64>,
@@ -101,7 +102,7 @@ fn multiplied(
     Ok(list)
 }
 
-// Multiplies all numbers of a program by the factors of their row and column.
+// Multiplies all entries of a program, by column and by row, by the factors of their row and column.
 fn multiply_lines(
     alloc: Global,
     program: &mut Program,
@@ -113,7 +114,7 @@ fn multiply_lines(
     Ok(())
 }
 
-// Scales the bounds and the cost of a column whose values are divided by a power of two.
+// Divides the bounds of column `k` by a factor, and multiplies its cost by it.
 fn scale_column(program: &mut Program, k: usize, times: f64) {
     if let Some(bound) = program.lower.get_mut(k) {
         *bound /= times;
@@ -126,14 +127,14 @@ fn scale_column(program: &mut Program, k: usize, times: f64) {
     }
 }
 
-// Multiplies each structural column by its factor.
+// Divides the bounds of each structural column by its factor, and multiplies its cost by it.
 fn scale_structural(program: &mut Program, factors: &[f64]) {
     for (k, times) in factors.iter().enumerate() {
         scale_column(program, k, *times);
     }
 }
 
-// Scales the logical columns with their rows.
+// Multiplies the bounds of each logical column by the factor of its row, and divides its cost by it.
 fn scale_logical(program: &mut Program, factors: &[f64]) {
     for (i, times) in factors.iter().enumerate() {
         let k = program.logical(i);
@@ -141,7 +142,7 @@ fn scale_logical(program: &mut Program, factors: &[f64]) {
     }
 }
 
-// Divides all costs by a power of two where one is too great.
+// Multiplies all costs by one power of two where the greatest is past 1024, so that it is near that.
 fn scale_costs(program: &mut Program) {
     let most = greatest(&program.cost);
     if most > COST {
@@ -152,7 +153,7 @@ fn scale_costs(program: &mut Program) {
     }
 }
 
-// The greatest magnitude of bounds that are finite.
+// The greatest absolute value of bounds that are finite; 0 if none is.
 fn greatest_bound(bounds: &[f64]) -> f64 {
     let mut most = 0.0;
     for bound in bounds {
@@ -171,7 +172,7 @@ fn multiply(bounds: &mut [f64], times: f64) {
     }
 }
 
-// Brings bounds up that are all small, as if all were counted in smaller units.
+// Multiplies all bounds by one power of two where all are below 1/1000, so that the greatest is near 1.
 fn scale_bounds(program: &mut Program) {
     let most = greatest_bound(&program.lower).max(greatest_bound(&program.upper));
     if most > 0.0 && most < BOUND {
@@ -181,7 +182,8 @@ fn scale_bounds(program: &mut Program) {
     }
 }
 
-/// Scales a program, so that the magnitudes of its numbers come near 1, its costs, and bounds that are all small.
+/// Scales a program by powers of two, so that the magnitudes of its entries come near 1, great costs near 1024 and
+/// bounds that are all tiny near 1.
 pub(crate) fn scale(alloc: Global, program: &mut Program) -> Result<(), AllocError> {
     let mut rows = Vec::from_elem(alloc, 1.0, program.rows)?;
     let mut cols = Vec::from_elem(alloc, 1.0, program.cols)?;

@@ -6,13 +6,13 @@ use std::alloc::AllocError;
 // What stands for 0 at a place that is noted.
 const TRACE: f64 = 1e-100;
 
-// A sum that may be 0.
+// The sum, or a tiny number in place of 0, which keeps a noted place from being noted again.
 #[inline(always)]
 fn unless_zero(sum: f64) -> f64 {
     if sum == 0.0 { TRACE } else { sum }
 }
 
-/// Adds to the number at `k`, and notes its place.
+/// Adds `more` to the number at `k`, and notes the place if it is new.
 #[inline(always)]
 pub(crate) fn add_to(list: &mut Sparse<f64>, k: usize, more: f64) -> Result<(), AllocError> {
     let before = at(&list.numbers, k);
@@ -23,7 +23,7 @@ pub(crate) fn add_to(list: &mut Sparse<f64>, k: usize, more: f64) -> Result<(), 
     Ok(())
 }
 
-/// Sets the number at `k`, and notes the place.
+/// Sets the number at `k`, and notes the place if it is new.
 #[inline(always)]
 pub(crate) fn put_in(list: &mut Sparse<f64>, k: usize, number: f64) -> Result<(), AllocError> {
     if at(&list.numbers, k) == 0.0 && !list.is_full() {
@@ -33,7 +33,7 @@ pub(crate) fn put_in(list: &mut Sparse<f64>, k: usize, number: f64) -> Result<()
     Ok(())
 }
 
-// Adds a multiple of a sparse line, of which all places are noted.
+// Adds `times` times a sparse line to numbers all of whose places are noted.
 #[inline(always)]
 fn add_noted(list: &mut [f64], line: &[Entry<f64>], times: f64) {
     for entry in line {
@@ -41,7 +41,7 @@ fn add_noted(list: &mut [f64], line: &[Entry<f64>], times: f64) {
     }
 }
 
-/// Adds a multiple of a sparse line.
+/// Adds `times` times a sparse line to the numbers, and notes the new places.
 #[inline(always)]
 pub(crate) fn add_line(
     list: &mut Sparse<f64>,
@@ -70,7 +70,7 @@ pub(crate) fn copy_to(list: &mut Sparse<f64>, from: &Sparse<f64>) -> Result<(), 
     Ok(())
 }
 
-/// Whether more than one number in so many is not 0.
+/// Whether more than one number in `part` is not 0.
 pub(crate) fn is_dense(list: &Sparse<f64>, part: usize) -> bool {
     let mut count = 0usize;
     for k in &list.places {

@@ -127,7 +127,7 @@ pub(crate) fn put_status(list: &mut [Status], k: usize, status: Status) {
     }
 }
 
-// The basic columns of statuses, at most as many as there are rows.
+// The columns that these statuses say are basic, but only the first ones, as many as there are rows.
 fn basic_columns(
     alloc: Global,
     program: &Program,
@@ -154,7 +154,8 @@ fn head_of(alloc: Global, program: &Program, status: &[Status]) -> Result<Vec<us
     Ok(head)
 }
 
-/// The status of a column that is not basic: the wanted one, if it has that bound.
+/// The status of a nonbasic column with these bounds: the wanted bound if it has that, else its other one, else
+/// `AtZero`.
 pub(crate) fn resting(wanted: Status, lower: f64, upper: f64) -> Status {
     let has_lower = lower > f64::NEG_INFINITY;
     let has_upper = upper < f64::INFINITY;
@@ -167,7 +168,7 @@ pub(crate) fn resting(wanted: Status, lower: f64, upper: f64) -> Status {
     }
 }
 
-// A list without any places for numbers.
+// An empty list of numbers, without places.
 fn no_numbers(alloc: Global) -> Sparse<f64> {
     Sparse {
         numbers: Vec::new(alloc),
@@ -176,7 +177,7 @@ fn no_numbers(alloc: Global) -> Sparse<f64> {
 }
 
 impl Room {
-    // No room yet.
+    // Empty lists, with room for no rows and no columns yet.
     fn new(alloc: Global) -> Self {
         Room {
             inverse_row: no_numbers(alloc),
@@ -190,7 +191,7 @@ impl Room {
         }
     }
 
-    // Makes room for so many rows and columns.
+    // Makes room for so many rows and columns, whose numbers are all 0.
     fn lengthen(&mut self, rows: usize, columns: usize) -> Result<(), AllocError> {
         self.inverse_row.numbers.resize(rows, 0.0)?;
         self.row.numbers.resize(columns, 0.0)?;
@@ -240,7 +241,7 @@ impl State {
         put_statuses(&mut self.status, program.len(), start)
     }
 
-    // Makes room for what is found.
+    // Makes room for the values and reduced costs of so many columns, and for the weights of columns and rows.
     fn lengthen(&mut self, rows: usize, columns: usize) -> Result<(), AllocError> {
         self.value.resize(columns, 0.0)?;
         self.reduced.resize(columns, 0.0)?;
@@ -251,7 +252,8 @@ impl State {
     }
 }
 
-/// A state at a basis of a program, before it is rebuilt.
+/// The state of a run at the basis of these statuses, which is mended where it is none. Its basic values and reduced
+/// costs are still to be made.
 pub(crate) fn state_at(
     alloc: Global,
     program: &Program,
@@ -273,7 +275,7 @@ impl State {
         is_basic(status_at(&self.status, k))
     }
 
-    /// How far a value is outside of its bounds, below 0 where it is below the lower one.
+    /// How far the value of a column is outside of its bounds: below 0 where it is below the lower one, 0 within them.
     #[inline(always)]
     pub(crate) fn outside(&self, k: usize) -> f64 {
         let value = at(&self.value, k);
@@ -288,7 +290,8 @@ impl State {
         }
     }
 
-    /// How far a reduced cost is on the wrong side of 0, at most 0 where it is not.
+    /// How far a reduced cost is on the wrong side of 0 for its status, at most 0 where it is not. 0 for basic and
+    /// fixed columns.
     #[inline(always)]
     pub(crate) fn wrong(&self, k: usize) -> f64 {
         let reduced = at(&self.reduced, k);
@@ -315,7 +318,7 @@ impl State {
         put(&mut self.room.outside, place, square);
     }
 
-    /// Notes whether a column never enters.
+    /// Notes whether a column never enters: it is basic, or its bounds are the same.
     pub(crate) fn note_idle(&mut self, k: usize) {
         let is_fixed = at(&self.lower, k) == at(&self.upper, k);
         let is_idle = is_fixed || self.is_basic(k);
@@ -324,13 +327,14 @@ impl State {
         }
     }
 
-    /// The distance between the bounds of a column.
+    /// The distance between the bounds of a column; infinite where one is absent.
     #[inline(always)]
     pub(crate) fn range(&self, k: usize) -> f64 {
         at(&self.upper, k) - at(&self.lower, k)
     }
 
-    /// Moves a column that is not basic to the wanted bound if the column has it, and else to another one or to 0.
+    /// Moves a nonbasic column to the wanted bound if it has that, else to its other bound, else to 0: its status and
+    /// its value.
     pub(crate) fn settle(&mut self, k: usize, wanted: Status) {
         let lower = at(&self.lower, k);
         let upper = at(&self.upper, k);
@@ -344,7 +348,7 @@ impl State {
         put(&mut self.value, k, value);
     }
 
-    /// Moves a column that is not basic to its other bound.
+    /// Moves a nonbasic column to its other bound, or leaves it where it has none.
     pub(crate) fn turn(&mut self, k: usize) {
         match status_at(&self.status, k) {
             Status::AtUpper => self.settle(k, Status::AtLower),
@@ -352,7 +356,7 @@ impl State {
         }
     }
 
-    /// The most that a value is outside of its bounds.
+    /// The most by which the value of any column is outside of its bounds, 0 at least.
     pub(crate) fn most_outside(&self) -> f64 {
         let mut most = 0.0;
         for k in 0..self.status.len() {
@@ -361,7 +365,7 @@ impl State {
         most
     }
 
-    /// The most that a reduced cost is wrong.
+    /// The most by which any reduced cost is wrong for its status, 0 at least.
     pub(crate) fn most_wrong(&self) -> f64 {
         let mut most = 0.0;
         for k in 0..self.status.len() {
@@ -371,7 +375,8 @@ impl State {
     }
 }
 
-// Gives the columns the statuses of the basis, and those that are not basic the values of their bounds.
+// Makes the status of each column in the basis basic, and moves each other column to its bound. Notes which columns
+// never enter.
 fn mark_basic(state: &mut State) {
     for k in 0..state.status.len() {
         if index_at(&state.basis.place, k) != NOWHERE {
@@ -384,7 +389,7 @@ fn mark_basic(state: &mut State) {
     }
 }
 
-// Begins anew with the weights of positions whose columns are others than before.
+// Sets the weight of each position to 1 whose column is another one than before.
 fn forget_weights(state: &mut State, before: &[usize]) {
     for (p, k) in before.iter().enumerate() {
         if index_at(&state.basis.head, p) != *k {
@@ -393,7 +398,7 @@ fn forget_weights(state: &mut State, before: &[usize]) {
     }
 }
 
-/// Makes the factors of the basis anew.
+/// Makes the factors of the basis anew. Where that mends the basis, statuses, values and weights follow.
 pub(crate) fn refactor(
     alloc: Global,
     state: &mut State,
