@@ -12,6 +12,7 @@ use Rattle.spec_check.specs.Run.{Agrees, check_run}
 use Rattle.spec_check.proofs.RunAgrees.{run_agrees}
 use Rattle.spec_runs.specs.Accepted.{IsAccepted}
 
+-- the checker at 127 bits never says no to a certificate that is accepted at any limit or without one
 pub never_no : (limit : Option ℕ) (m : Model) (c : Certificate (List ℚ)) → IsAccepted limit m c → (n : ℕ) →
     check_run (Some number_limit) m c ≢ Err (No n)
 unfolding Agrees

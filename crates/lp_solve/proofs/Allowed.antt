@@ -39,10 +39,12 @@ fit_end m end fit = λ known c basis pivots is. subst (IsFit m) is fit
 -- ---- from a basis of the form
 module _ (budget : ℕ) (m : Model) (f : Form) (basis : List Status) (formed : form_of (Some number_limit) m ≡ Ok f)
     (fits : IsBasisOf f basis) where
+  -- with a starting basis of the form a solve may end as the definitions of runs let it, if the end is fit
   warm_is_solved : (s : SolveEnd) → MayEnd (Some number_limit) budget m (Some basis) s → IsFit m s.end →
       IsSolved m budget (Some basis) s
   warm_is_solved s may fit = is_solved m budget (Some basis) s (f, formed, fits) may (fit_end m s.end fit)
 
+  -- where the warm start from the basis ends with an answer, a solve may end with it, on the route `Warm`
   pub warm_solved : (answer : Known ℚ) (c : Certificate (List ℚ)) (left : Option (List Status)) (pivots : ℕ)
       (w : WarmResult) → w ≡ warm.Ended answer c left pivots →
       w ≡ after_form (Some number_limit) budget m basis (Ok f) →
@@ -52,6 +54,7 @@ module _ (budget : ℕ) (m : Model) (f : Form) (basis : List Status) (formed : f
       warm_is_solved (record { end = Ended answer c left pivots; route = route.Warm })
       (ends_warm (Some number_limit) budget m f basis formed answer c left pivots w e h) (subst (IsWarmFit m) e fit)
 
+  -- where the warm start from the basis has stopped, a solve may end as a cold solve may, on the route `Fell`
   pub fall_solved : (stop : WarmStop ℚ) (w : WarmResult) (end : ExactSolveEnd) → w ≡ warm.Stopped stop →
       w ≡ after_form (Some number_limit) budget m basis (Ok f) → MayEndCold (Some number_limit) budget m end →
       IsFit m end →
@@ -60,6 +63,8 @@ module _ (budget : ℕ) (m : Model) (f : Form) (basis : List Status) (formed : f
       warm_is_solved (record { end = end; route = route.Fell (fall_of stop) })
       (falls (Some number_limit) budget m f basis formed stop w end e h may) fit
 
+  -- where the warm start from the basis has stopped, what may end a solve after that stop may end a solve from the
+  -- basis
   pub after_solved : {E : Type 0} (stop : WarmStop ℚ) (w : WarmResult) (r : Result (ExactSolveEnd × Route) E) →
       w ≡ warm.Stopped stop → w ≡ after_form (Some number_limit) budget m basis (Ok f) →
       IfOk r (λ s. IsAfterStop budget m f stop (solve_end s)) → IfOk r (λ s. IsSolved m budget (Some basis) (solve_end s))
@@ -96,6 +101,7 @@ starting_fits view f (Some basis) fits = fits
 
 module _ {B : Type 0} (budget : ℕ) (m : Model) (f : Form) (view : B → List Status) (starting : Option B)
     (formed : form_of (Some number_limit) m ≡ Ok f) (fits : IfSome starting (λ basis. IsBasisOf f (view basis))) where
+  -- the basis with which a solve may end, from a basis of the form or from none, is one of the form
   pub solve_leaves : (s : SolveEnd) → IsSolved m budget (option_map view starting) s → LeavesBasis f s.end
   solve_leaves s h = by s.end refl
     where
@@ -105,6 +111,7 @@ module _ {B : Type 0} (budget : ℕ) (m : Model) (f : Form) (view : B → List S
           (starting_fits view f starting fits) h
       by end is = tt
 
+  -- the basis that is left by a result with which a solve may end is one of the form; without memory nothing is asked
   pub solves_leave : {E : Type 0} (r : Result (ExactSolveEnd × Route) E) →
       IfOk r (λ s. IsSolved m budget (option_map view starting) (solve_end s)) → IfOk r (λ s. LeavesBasis f s.0)
   solves_leave (Ok s) h = solve_leaves (solve_end s) h

@@ -26,12 +26,15 @@ use Rattle.lp_solve.specs.Strategy.{GaveUp, IsRunOf, KeepsRefusal}
 
 -- ---- each one is tried
 module _ (a b c : Engine) where
+  -- the first of three engines is among them
   first : Contains (a ∷ b ∷ c ∷ []) a
   first = (0, omega arith, refl)
 
+  -- the second of three engines is among them
   second : Contains (a ∷ b ∷ c ∷ []) b
   second = (1, omega arith, refl)
 
+  -- the third of three engines is among them
   third : Contains (a ∷ b ∷ c ∷ []) c
   third = (2, omega arith, refl)
 
@@ -52,12 +55,14 @@ from_rows Rows = first Rows Tableaus Factors
 
 module _ (budget : ℕ) (m : Model) (f : Form) where
   -- ---- one engine
+  -- where an engine ended with an answer, the cold solve may end with it
   pub run_may : (engine : Engine) (end : ExactSolveEnd) (known : Known ℚ) (c : Certificate (List ℚ))
       (basis : Option (List Status)) (pivots : ℕ) → end ≡ outcome.Ended known c basis pivots →
       IsRunOf budget m f engine end → MayEndCold (Some number_limit) budget m end
   run_may engine end known c basis pivots is run =
       subst (MayEndCold (Some number_limit) budget m) (sym is) (subst (IsRunOf budget m f engine) is run)
 
+  -- where an engine ended without an answer, what is asked of an engine that gave up holds
   pub run_gave_up : (engine : Engine) (end : ExactSolveEnd) →
       ((p : Past ℚ) × (end ≡ outcome.Past p)) ⊎ (end ≡ outcome.Spent) → IsRunOf budget m f engine end →
       GaveUp budget m f end engine
@@ -68,7 +73,7 @@ module _ (budget : ℕ) (m : Model) (f : Form) where
 
   -- ---- the refusal that is kept
   module _ (refused end kept : ExactSolveEnd) where
-    -- it is still that of the engines before
+    -- where this engine and another gave up, the refusal that is kept after this one still suits the other
     kept_before : (engine : Engine) → KeepsRefusal engine refused end kept → GaveUp budget m f end engine → (other : Engine) →
         GaveUp budget m f refused other → GaveUp budget m f kept other
     kept_before engine keeps up Factors before = before
@@ -77,13 +82,14 @@ module _ (budget : ℕ) (m : Model) (f : Form) where
     kept_before Factors keeps up Tableaus before = subst (λ end. GaveUp budget m f end Tableaus) (sym keeps) before
     kept_before Rows keeps up Tableaus before = subst (λ end. GaveUp budget m f end Tableaus) (sym keeps) before
 
-    -- and that of this one
+    -- where this engine gave up, the refusal that is kept after it suits it
     kept_here : (engine : Engine) → KeepsRefusal engine refused end kept → GaveUp budget m f end engine →
         GaveUp budget m f kept engine
     kept_here Factors keeps up = up
     kept_here Rows keeps up = tt
     kept_here Tableaus keeps up = subst (λ end. GaveUp budget m f end Tableaus) (sym keeps) up
 
+    -- where the first i engines gave up, and engine i gave up too, the refusal that is kept then suits all i + 1
     pub one_more : (engines : List Engine) (i : ℕ) (d : Engine) → i < length engines →
         All (GaveUp budget m f refused) (take i engines) → GaveUp budget m f end (get_or engines i d) →
         KeepsRefusal (get_or engines i d) refused end kept → All (GaveUp budget m f kept) (take (i + 1) engines)
@@ -96,24 +102,30 @@ module _ (budget : ℕ) (m : Model) (f : Form) where
   -- ---- all of them
   module _ (engines : List Engine) (refused : ExactSolveEnd) (all : (engine : Engine) → Contains engines engine)
       (up : All (GaveUp budget m f refused) engines) where
+    -- the engine over tableaus gave up with this refusal
     tableaus_up : GaveUp budget m f refused Tableaus
     tableaus_up = All-contains (GaveUp budget m f refused) engines Tableaus up (all Tableaus)
 
+    -- the engine over factors gave up
     factors_up : GaveUp budget m f refused Factors
     factors_up = All-contains (GaveUp budget m f refused) engines Factors up (all Factors)
 
+    -- the form of the model is the only one that it has
     same_form : form_of (Some number_limit) m ≡ Ok f → (g : Form) → form_of (Some number_limit) m ≡ Ok g → f ≡ g
     same_form formed g h = let z : ◌≡◌ {A = Result Form (FormFault ℚ)} (Ok f) (Ok g) = sym formed ∙ h in cc
 
+    -- where all engines gave up, the cold solve may end with the refusal that was kept
     pub none_answers : form_of (Some number_limit) m ≡ Ok f → MayEndCold (Some number_limit) budget m refused
     none_answers formed =
         EndsWithout tableaus_up.0 tableaus_up.1
         (λ g h. subst (λ f. GivesUp (over_factors (Some number_limit) budget m f)) (same_form formed g h) factors_up)
 
+    -- an end without an answer is fit
     gives_up_fits : (o : ExactSolveEnd) → GivesUp o → IsFit m o
     gives_up_fits (outcome.Ended known c basis pivots) up = absurd up
     gives_up_fits (outcome.Past p) up = tt
     gives_up_fits outcome.Spent up = tt
 
+    -- where all engines gave up, the refusal that was kept is fit
     pub none_fits : IsFit m refused
     none_fits = gives_up_fits refused tableaus_up.0

@@ -41,7 +41,7 @@ same_form : (m : Model) (f g : Form) → form_of (Some number_limit) m ≡ Ok f 
 same_form m f g h k = let z : ◌≡◌ {A = Result Form (FormFault ℚ)} (Ok f) (Ok g) = sym h ∙ k in cc
 
 module _ (m : Model) (f : Form) (formed : form_of (Some number_limit) m ≡ Ok f) where
-  -- a basis of this form at which the certificate stands
+  -- a basis of the model's form at which the certificate stands is one that an answer with this certificate may have
   pub of_answer : (cert : Certificate (List ℚ)) (basis : List Status) → IsBasisOf f basis → IsOfBasis m basis cert →
       IsBasisOfAnswer m cert basis
   of_answer cert basis fits stands = record {
@@ -53,13 +53,14 @@ module _ (m : Model) (f : Form) (formed : form_of (Some number_limit) m ≡ Ok f
 
 module _ (m : Model) (budget : ℕ) (starting : Option (List Status)) (solved : SolveEnd)
     (is : IsSolved m budget starting solved) where
+  -- what a solve at 127 bits ends with is shown by its certificate
   pub ended_shown : (known : Known ℚ) (cert : Certificate (List ℚ)) (basis : Option (List Status)) (pivots : ℕ) →
       solved.end ≡ Ended known cert basis pivots → IsShown m known cert
   ended_shown known cert basis pivots e =
       let may : MayAnswer m budget (Ended known cert basis pivots) = subst (MayAnswer m budget) e is.may_answer in
       narrow_shown m known cert may.0 may.1 may.2
 
-  -- and the basis of its end is one of the form, if the one is from which it starts
+  -- the basis with which a solve at 127 bits ends is one of the model's form, if the basis from which it starts is
   pub end_based : (f : Form) → form_of (Some number_limit) m ≡ Ok f → IfSome starting (IsBasisOf f) →
       (known : Known ℚ) (cert : Certificate (List ℚ)) (basis : Option (List Status)) (pivots : ℕ) →
       solved.end ≡ Ended known cert basis pivots → IfSome basis (λ left. IsBasisOf f left)
@@ -67,6 +68,7 @@ module _ (m : Model) (budget : ℕ) (starting : Option (List Status)) (solved : 
   end_based f formed fits known cert (Some left) pivots e =
       solved_left known cert left pivots m budget f formed solved e starting fits is
 
+  -- where a solve at 127 bits gives up, an exact solve may
   pub gave_up : (end : ExactSolveEnd) → solved.end ≡ end → GivesUp end → MayGiveUp m budget starting
   gave_up end e up = (solved, is, subst GivesUp (sym e) up)
 

@@ -15,10 +15,12 @@ use Rattle.lp_solve.specs.declared.strategy.Engine.TheVariants.{Rows}
 use Rattle.lp_solve.specs.Strategy.{IsRunOf}
 use Rattle.lp_solve.proofs.Factored.{other_may}
 
+-- the end of a run over rows as one of a run over factors: the same certificate, basis and count of pivots
 abbrev pub run_end : RowEnd ℚ → RunEnd
 run_end e = record { certificate = e.certificate; basis = e.basis; pivots = e.pivots }
 
--- an answer may be the end, and where there is none nothing is asked of the run
+-- the engine over rows may end with what the checker answers to the certificate of a run that ended as both phases do
+-- without a limit
 pub rows_run : (budget : ℕ) (m : Model) (f : Form) → form_of (Some number_limit) m ≡ Ok f → (e : RunEnd) →
     answer_in (phases_run None budget f) ≡ Ok (over_end e) → (end : ExactSolveEnd) →
     end ≡ answered (Some number_limit) m e.certificate e.basis e.pivots → IsRunOf budget m f Rows end

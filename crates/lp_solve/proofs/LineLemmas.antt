@@ -52,22 +52,27 @@ fits_of v top bottom power is t b below =
 -- ---- by the kind of a certificate
 
 module _ {E : Type 0} (result : Result Bool E) (cert : Certificate (List ℚ)) where
+  -- where the result is true, P holds; without a result or where it is false nothing is asked
   abbrev Tells : Type 0 → Type 0
   Tells P = IfOk result (λ b. IsTrue b → P)
 
+  -- what a test tells of two lists it tells of lists that are equal to these
   both : (x y xs ys : List ℚ) → xs ≡ x → ys ≡ y → Tells (All FitsLine xs × All FitsLine ys) →
       Tells (All FitsLine x × All FitsLine y)
   both x y xs ys p q h =
       subst (λ x. Tells (All FitsLine x × All FitsLine y)) p (subst (λ y. Tells (All FitsLine xs × All FitsLine y)) q h)
 
+  -- a test that tells that x and y fit their lines tells it of the certificate of an optimum with x and y
   pub optimal_fits : (x y xs ys : List ℚ) → cert ≡ Optimal x y → xs ≡ x → ys ≡ y →
       Tells (All FitsLine xs × All FitsLine ys) → Tells (FitsLines cert)
   optimal_fits x y xs ys is p q h = subst (λ c. Tells (FitsLines c)) (sym is) (both x y xs ys p q h)
 
+  -- a test that tells that x and r fit their lines tells it of the certificate of an unbounded model with x and r
   pub unbounded_fits : (x r xs rs : List ℚ) → cert ≡ Unbounded x r → xs ≡ x → rs ≡ r →
       Tells (All FitsLine xs × All FitsLine rs) → Tells (FitsLines cert)
   unbounded_fits x r xs rs is p q h = subst (λ c. Tells (FitsLines c)) (sym is) (both x r xs rs p q h)
 
+  -- a test that tells that y fits its lines tells it of the certificate of an infeasible model with y
   pub infeasible_fits : (y ys : List ℚ) → cert ≡ Infeasible y → ys ≡ y → Tells (All FitsLine ys) → Tells (FitsLines cert)
   infeasible_fits y ys is q h =
       subst (λ c. Tells (FitsLines c)) (sym is) (subst (λ y. Tells (All FitsLine y)) q h)

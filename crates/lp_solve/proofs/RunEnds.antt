@@ -20,7 +20,7 @@ use Rattle.spec_simplex.proofs.RunParts.{then_ok, refused_ok}
 use Rattle.lp_simplex.proofs.Entering.{MayEnter, may_enter}
 use Rattle.lp_solve.specs.Ends.{IsInside}
 
--- as many positions and columns
+-- the tableau u has as many positions and structural columns as t
 pub record IsAsLarge (t u : Tableau) : Type 0 where
   pub rows : u.rows ≡ t.rows
   pub cols : u.cols ≡ t.cols
@@ -35,6 +35,7 @@ by_way_of t u v p q = record { rows = q.rows ∙ p.rows; cols = q.cols ∙ p.col
 
 module _ (limit : Option ℕ) where
   -- ---- one step
+  -- a flip leaves a tableau as large
   flip_keeps : (t u : Tableau) (j : ℕ) → flip_run limit t j ≡ Ok u → IsAsLarge t u
   unfolding flip_run
   flip_keeps t u j h =
@@ -43,6 +44,7 @@ module _ (limit : Option ℕ) where
       let z : flipped t j (other_bound (flip_way (status_at t j))) b.0 ≡ u = cc in
       subst (IsAsLarge t) z (record { rows = refl; cols = refl })
 
+  -- a pivot leaves a tableau as large
   pivot_keeps : (t u : Tableau) (p j : ℕ) (theta : ℚ) (to : Status) → pivot_run limit t p j theta to ≡ Ok u →
       IsAsLarge t u
   unfolding pivot_run
@@ -55,17 +57,20 @@ module _ (limit : Option ℕ) where
       subst (IsAsLarge t) z (record { rows = refl; cols = refl })
 
   -- ---- the column that is never stopped
+  -- the choice of a step that the ratio test found is a flip or a pivot, so that as an end it would be inside
   is_no_end : (t : Tableau) (e : Entering) (x : Best ℚ) (place : Option ℕ) (end : PrimalEnd) →
       choice_at e x place ≡ End end → IsInside t (Some end)
   is_no_end t e x None end h = let z : ◌≡◌ {A = Choice ℚ} (Flip e.col) (End end) = h in cc
   is_no_end t e x (Some i) end h =
       let z : ◌≡◌ {A = Choice ℚ} (Pivot i e.col (directed e.direction x.ratio) x.to) (End end) = h in cc
 
+  -- where a choice by the ratio test's outcome is an end, its column, if it is unbounded, is one of the tableau
   by_best : (t : Tableau) (e : Entering) (best : Option (Best ℚ)) (end : PrimalEnd) → e.col < all_columns t →
       choice_by e best ≡ End end → IsInside t (Some end)
   by_best t e None end l h = let z : Unbounded e.col e.direction ≡ end = cc in subst (λ end. IsInside t (Some end)) z l
   by_best t e (Some x) end l h = is_no_end t e x x.place end h
 
+  -- where a choice by the entering column is an end, its column, if it is unbounded, is one of the tableau
   by_entering : (t : Tableau) (o : Option Entering) (end : PrimalEnd) → entering t ≡ o →
       choice_of limit t o ≡ Ok (End end) → IsInside t (Some end)
   by_entering t None end h g = let z : Optimal ≡ end = cc in subst (λ end. IsInside t (Some end)) z tt
@@ -75,22 +80,27 @@ module _ (limit : Option ℕ) where
       let m : MayEnter t (all_columns t) e = may_enter t e h in
       by_best t e b.0 end m.inside z
 
+  -- where the primal step ends, the column of its end, if it is unbounded, is one of the tableau
   end_inside : (t : Tableau) (end : PrimalEnd) → choice_run limit t ≡ Ok (End end) → IsInside t (Some end)
   unfolding choice_run
   end_inside t end h = by_entering t (entering t) end refl h
 
   -- ---- the run
+  -- a run from t ended so: with a tableau as large as t, and if unbounded, by a column of that tableau
   pub record IsEnd (t : Tableau) (e : PrimalEnded) : Type 0 where
     pub large : IsAsLarge t e.tableau
     pub inside : IsInside e.tableau (Some e.end)
 
+  -- an end from a tableau as large as t is one from t
   on_from : (t u : Tableau) (e : PrimalEnded) → IsAsLarge t u → IsEnd u e → IsEnd t e
   on_from t u e p q = record { large = by_way_of t u e.tableau p q.large; inside = q.inside }
 
+  -- where the primal step ends at t, the run ends with this tableau and count
   ends_at : (t : Tableau) (used : ℕ) (e : PrimalEnded) (end : PrimalEnd) → choice_run limit t ≡ Ok (End end) →
       record { end = end; tableau = t; used = used } ≡ e → IsEnd t e
   ends_at t used e end c z = subst (IsEnd t) z (record { large = as_large t; inside = end_inside t end c })
 
+  -- where the run from t ends without a step, by its choice at t, its end is one from t
   ends_here : (t : Tableau) (used : ℕ) (e : PrimalEnded) (choice : Choice ℚ) → choice_run limit t ≡ Ok choice →
       end_or_spent t used choice ≡ Ok e → IsEnd t e
   ends_here t used e (End end) c h =
@@ -100,6 +110,7 @@ module _ (limit : Option ℕ) where
   ends_here t used e (Pivot p j theta to) c h =
       let z : ◌≡◌ {A = Result PrimalEnded (RunStop ℚ)} (Err stop.Spent) (Ok e) = h in cc
 
+  -- a primal run from t ends with a tableau as large as t, and if unbounded, by a column of it
   pub run_ends : (left used : ℕ) (t : Tableau) (e : PrimalEnded) → run_from limit left used t ≡ Ok e → IsEnd t e
   unfolding run_from
   run_ends zero used t e h =
@@ -123,6 +134,7 @@ module _ (limit : Option ℕ) where
           on_from t o.0 e (pivot_keeps t o.0 p j theta to (refused_ok stop.Past (pivot_run limit t p j theta to) o.0
           o.1)) (more o.0 o.2)
 
+  -- the column with which a primal run ends as unbounded is one of the tableau that it leaves
   pub run_inside : (left used : ℕ) (t : Tableau) (end : PrimalEnd) (u : Tableau) (after : ℕ) →
       run_from limit left used t ≡ Ok (record { end = end; tableau = u; used = after }) → IsInside u (Some end)
   run_inside left used t end u after h =

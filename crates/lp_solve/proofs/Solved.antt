@@ -61,25 +61,29 @@ finishes limit m tab used (Some end) = refl
 
 -- ---- the solve
 module _ (limit : Option ℕ) (budget : ℕ) (m : Model) where
+  -- the cold solve from what making the form gives is the cold solve of the model
   pub cold_is : (o : Result Form (FormFault ℚ)) → form_of limit m ≡ o →
       after_form limit budget m o ≡ cold limit budget m
   unfolding cold
   cold_is o h = ap (after_form limit budget m) (sym h)
 
-  -- for a model without a form nothing else is tried
+  -- a model without a form may end cold with what the cold solve makes of the fault that the making of the form has
   pub formless : (why : FormFault ℚ) (end : ExactSolveEnd) → form_of limit m ≡ Err why →
       end ≡ after_form limit budget m (Err why) → MayEndCold limit budget m end
   formless why end h is =
       subst (MayEndCold limit budget m) (sym (is ∙ cold_is (Err why) h)) (formless_may limit budget m why h)
 
+  -- where the start is refused an operation, the cold solve ends with `Past` and this operation
   pub refused_from : (f : Form) (p : Past ℚ) → start_of limit f ≡ Err p →
       ◌≡◌ {A = ExactSolveEnd} (outcome.Past p) (after_phases limit m (phases_run limit budget f))
   refused_from f p h = ap (after_phases limit m) (sym (start_refused limit budget f p h))
 
+  -- the certificate of both phases' end is one for the model
   pub end_fits : (f : Form) (e : PhasesEnd) → form_of limit m ≡ Ok f → phases_run limit budget f ≡ Ok e →
       IsFor m (certificate_of e)
   end_fits f e h g = let a : IsAccepted limit m (certificate_of e) = end_accepted limit budget m f e h g in a.fits
 
+  -- bounds that clash are those of a column of the model
   pub clash_fits : (j : ℕ) → form_of limit m ≡ Err (fault.Clash j) → j < width m
   clash_fits j h = let a : IsAccepted limit m (certificate.Clash j) = clash_accepted limit m j h in a.fits
 

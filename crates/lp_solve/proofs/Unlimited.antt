@@ -18,18 +18,22 @@ use Rattle.lp_solve.proofs.Left.{warm_leaves}
 module _ (budget : ℕ) (m : Model) (f : Form) (formed : form_of (Some number_limit) m ≡ Ok f)
     (basis from : List Status) (same : from ≡ basis) (fits : IsBasisOf f basis) (e : RowEnd ℚ)
     (ended : EndsFromBasis budget f from e) where
+  -- the form at 127 bits is the form without a limit
   without : form_of None m ≡ Ok f
   without = form_without (Some number_limit) m f formed
 
+  -- the run over rows ended from the basis that was given
   ends : EndsFromBasis budget f basis e
   ends = subst (λ from. EndsFromBasis budget f from e) same ended
 
+  -- the certificate of the run over rows is one for the model
   pub warm_fits : IsFor m e.certificate
   warm_fits =
       let a : IsAccepted None m (warm_certificate ends.end) =
       run_accepted None budget m f basis ends.end without fits ends.run in
       subst (IsFor m) (sym ends.certificate) a.fits
 
+  -- the basis that the run over rows leaves, if it leaves one, is one of the form
   pub warm_based : IfSome e.basis (λ left. IsBasisOf f left)
   warm_based =
       subst (λ (o : Option (List Status)). IfSome o (λ left. IsBasisOf f left)) (sym ends.basis)

@@ -70,23 +70,28 @@ is_past run s p e h = subst (StopsAt run) e h
 
 module _ (limit : Option ℕ) (budget : ℕ) where
   -- ---- each method
+  -- where the primal run from a tableau ends, the warm start by the primal method ends with that
   pub primal_ends : (t : Tableau) (e : PrimalEnded) → run_from limit budget 0 t ≡ Ok e →
       run_by limit budget t fit.Primal ≡ Ok (ByPrimal e)
   primal_ends t e h = ap (λ o. stopped_as run_stop o >>= λ e. Ok (ByPrimal e)) h
 
+  -- where the dual run from a tableau ends, the warm start by the dual method ends with that
   pub dual_ends : (t : Tableau) (e : DualEnded) → dual_run limit budget t ≡ Ok e →
       run_by limit budget t fit.Dual ≡ Ok (ByDual e)
   dual_ends t e h = ap (λ o. stopped_as run_stop o >>= λ e. Ok (ByDual e)) h
 
+  -- where the primal run from a tableau stops, the warm start by the primal method stops so
   pub primal_stops : (t : Tableau) (s : RunStop ℚ) → run_from limit budget 0 t ≡ Err s →
       run_by limit budget t fit.Primal ≡ Err (run_stop s)
   primal_stops t s h = ap (λ o. stopped_as run_stop o >>= λ e. Ok (ByPrimal e)) h
 
+  -- where the dual run from a tableau stops, the warm start by the dual method stops so
   pub dual_stops : (t : Tableau) (s : RunStop ℚ) → dual_run limit budget t ≡ Err s →
       run_by limit budget t fit.Dual ≡ Err (run_stop s)
   dual_stops t s h = ap (λ o. stopped_as run_stop o >>= λ e. Ok (ByDual e)) h
 
   -- ---- the run
+  -- where making the tableau of the basis stops, the warm start stops so
   pub start_stops : (f : Form) (basis : List Status) (s : StartStop ℚ) → start_from limit f basis ≡ Err s →
       warm_run limit budget f basis ≡ Err (start_stop s)
   unfolding warm_run
@@ -95,6 +100,7 @@ module _ (limit : Option ℕ) (budget : ℕ) where
       fit) h
 
   module _ (f : Form) (basis : List Status) (t : Tableau) (starts : start_from limit f basis ≡ Ok t) where
+    -- the warm start is the test for which method its tableau is feasible, and then the run by that method
     from_start : warm_run limit budget f basis ≡ (refused_as fall.Past (fit_run limit t) >>= λ fit. run_by limit budget
         t fit)
     unfolding warm_run
@@ -102,18 +108,22 @@ module _ (limit : Option ℕ) (budget : ℕ) where
         ap (λ o. stopped_as start_stop o >>= λ t. refused_as fall.Past (fit_run limit t) >>= λ fit. run_by limit budget
         t fit) starts
 
+    -- where the test for which method the tableau is feasible is refused an operation, so is the warm start
     pub fit_refused : (p : Past ℚ) → fit_run limit t ≡ Err p → warm_run limit budget f basis ≡ Err (fall.Past p)
     fit_refused p h = from_start ∙ ap (λ o. refused_as fall.Past o >>= λ fit. run_by limit budget t fit) h
 
+    -- where the tableau is feasible for a method, the warm start is the run by this method
     pub runs_by : (kind : Fit) → fit_run limit t ≡ Ok kind → warm_run limit budget f basis ≡ run_by limit budget t kind
     runs_by kind h = from_start ∙ ap (λ o. refused_as fall.Past o >>= λ fit. run_by limit budget t fit) h
 
   -- ---- the whole
   module _ (m : Model) (f : Form) (basis : List Status) (formed : form_of limit m ≡ Ok f) where
+    -- the warm start from the model's form is the warm start of the model
     warm_is : after_form limit budget m basis (Ok f) ≡ warm_start limit budget m basis
     unfolding warm_start
     warm_is = ap (after_form limit budget m basis) (sym formed)
 
+    -- where the warm start ends with an answer, a solve from the basis may end with it, on the route `Warm`
     pub ends_warm : (answer : Known ℚ) (c : Certificate (List ℚ)) (left : Option (List Status)) (pivots : ℕ)
         (w : WarmResult) → w ≡ warm.Ended answer c left pivots → w ≡ after_form limit budget m basis (Ok f) →
         MayEnd limit budget m (Some basis) (record { end = cold.Ended answer c left pivots; route = route.Warm })
@@ -123,6 +133,7 @@ module _ (limit : Option ℕ) (budget : ℕ) where
         (λ w. MayEndBy limit budget m w (record { end = cold.Ended answer c left pivots; route = route.Warm }))
         (sym e ∙ h ∙ warm_is) refl
 
+    -- where the warm start has stopped, a solve from the basis may end as a cold solve may, on the route `Fell`
     pub falls : (s : WarmStop ℚ) (w : WarmResult) (end : colds.ExactSolveEnd) → w ≡ warm.Stopped s →
         w ≡ after_form limit budget m basis (Ok f) → MayEndCold limit budget m end →
         MayEnd limit budget m (Some basis) (record { end = end; route = route.Fell (fall_of s) })
@@ -150,6 +161,7 @@ fits_form limit m view (Some basis) f h fits =
 
 -- ---- what is known of the tableau of a basis
 module _ (m : Model) (t : Tableau) (kind : Fit) (k : IsBegun m t kind) where
+  -- where the tableau of a basis fits the dual method, the dual run may start from it
   pub can_run : kind ≡ fit.Dual → IsDualStart t
   can_run e =
       let s : BeginsFrom k.form t = start_begins_from (Some number_limit) k.form k.basis t
@@ -158,6 +170,7 @@ module _ (m : Model) (t : Tableau) (kind : Fit) (k : IsBegun m t kind) where
       in
       can_start (Some number_limit) _ _ _ _ _ t s.based (k.fit ∙ ap Ok e)
 
+  -- the warm start from the basis of the tableau is the run from the tableau by the method that it fits
   runs : (budget : ℕ) → warm_run (Some number_limit) budget k.form k.basis ≡ run_by (Some number_limit) budget t kind
   runs budget = runs_by (Some number_limit) budget k.form k.basis t k.starts kind k.fit
 
@@ -206,6 +219,7 @@ same_form : (m : Model) (f g : Form) → form_of (Some number_limit) m ≡ Ok f 
 same_form m f g h k = let z : ◌≡◌ {A = Result Form (FormFault ℚ)} (Ok f) (Ok g) = sym h ∙ k in cc
 
 module _ (budget : ℕ) (m : Model) (f : Form) (t : Tableau) (formed : form_of (Some number_limit) m ≡ Ok f) where
+  -- the basis that a primal run from the tableau of a basis leaves, if it leaves one, is one of the form
   pub primal_leaves : (e : PrimalEnded) → IsBegun m t fit.Primal → run_from (Some number_limit) budget 0 t ≡ Ok e →
       IfSome (colds.basis_at e.tableau e.end) (λ basis. IsBasisOf f basis)
   primal_leaves e k h =
@@ -214,6 +228,7 @@ module _ (budget : ℕ) (m : Model) (f : Form) (t : Tableau) (formed : form_of (
       (warm_leaves (Some number_limit) budget m k.form k.formed k.basis (ByPrimal e) k.fits
       (runs m t fit.Primal k budget ∙ primal_ends (Some number_limit) budget t e h))
 
+  -- the basis that a dual run from the tableau of a basis leaves, if it leaves one, is one of the form
   pub dual_leaves : (e : DualEnded) → IsBegun m t fit.Dual → dual_run (Some number_limit) budget t ≡ Ok e →
       IfSome (dual_basis e.tableau e.end) (λ basis. IsBasisOf f basis)
   dual_leaves e k h =

@@ -9,7 +9,7 @@ use Rattle.spec_simplex.specs.Tableau.{Tableau}
 use Rattle.spec_simplex.specs.Eliminate.{IsBasisOf, start_from}
 use Rattle.spec_simplex.specs.Fit.{fit_run}
 
--- the tableau is that of a basis of the model's form, and feasible for this method
+-- t is the tableau of some basis of the model's form, and its fit is of this kind
 pub record IsBegun (m : Model) (t : Tableau) (kind : Fit) : Type 0 where
   pub form : Form
   pub basis : List Status

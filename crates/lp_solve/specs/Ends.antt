@@ -13,21 +13,21 @@ abbrev pub end_by : Tableau → ℕ → Option PrimalEnd → PhasesEnd
 end_by t used None = Infeasible t used
 end_by t used (Some end) = Finished (record { end = end; tableau = t; used = used })
 
--- an end of both phases as the definitions have it
+-- the end of both phases that the code keeps, as the definitions have it
 abbrev pub end_of : Ended → PhasesEnd
 end_of e = end_by e.tab e.used e.end
 
--- phase one and two end with this end, this tableau and this count of steps, or stop for this reason
+-- the stated phases give what the code gives: this end, at this tableau and count, or the same stop
 abbrev pub EndsAt : Result PhasesEnd (RunStop ℚ) → Tableau → ℕ → Result (Option PrimalEnd) (RunStop ℚ) → Type 0
 EndsAt answer t used (Ok end) = answer ≡ Ok (end_by t used end)
 EndsAt answer t used (Err stop) = answer ≡ Err stop
 
--- phase one and two end with this end, or stop for this reason
+-- the stated phases give what the code gives: this end, or the same stop
 abbrev pub Ends : Result PhasesEnd (RunStop ℚ) → Result Ended (RunStop ℚ) → Type 0
 Ends answer (Ok e) = answer ≡ Ok (end_of e)
 Ends answer (Err stop) = answer ≡ Err stop
 
--- the column of an unbounded end is one of the tableau
+-- if the end is an unbounded one, its column is one of the tableau; of other ends nothing is asked
 abbrev pub IsInside : Tableau → Option PrimalEnd → Type 0
 IsInside t None = Unit {0}
 IsInside t (Some Optimal) = Unit {0}

@@ -10,18 +10,18 @@ use Rattle.spec_runs.specs.Cold.{ExactSolveEnd}
 use Rattle.spec_runs.specs.declared.ends.Warm.TheVariants as warm
 use Rattle.spec_runs.specs.Warm.{WarmResult}
 
--- the certificate of an answer is one for the model, and its numbers have at most 127 bits
+-- if the solve ended with an answer, its certificate is one for the model, and its numbers have at most 127 bits
 abbrev pub IsFit : Model → ExactSolveEnd → Type 0
 IsFit m (Ended answer certificate basis pivots) = IsFor m certificate × IsNarrowCertificate certificate
 IsFit m (Past p) = Unit {0}
 IsFit m Spent = Unit {0}
 
--- the certificate of a warm start's answer is one for the model, and its numbers have at most 127 bits
+-- if the warm start ended with an answer, its certificate is one for the model, and its numbers have at most 127 bits
 abbrev pub IsWarmFit : Model → WarmResult → Type 0
 IsWarmFit m (warm.Ended answer certificate basis pivots) = IsFor m certificate × IsNarrowCertificate certificate
 IsWarmFit m (warm.Stopped stop) = Unit {0}
 
--- the basis of an optimum is one of the form
+-- if the solve ended with an optimum and a basis, the basis is one of the form; of other ends nothing is asked
 abbrev pub LeavesBasis : Form → ExactSolveEnd → Type 0
 LeavesBasis f (Ended (known.Optimal v) certificate (Some basis) pivots) = IsBasisOf f basis
 LeavesBasis f other = Unit {0}

@@ -1,7 +1,7 @@
 -- How many digits the numerator and the denominator of a number of a certificate may have, each.
 use Rattle.std.specs.Prelude.{ℕ, ◌^◌}
 
--- how many digits a numerator may have, and a denominator: both together somewhat fewer than a line takes
+-- the number 7,680: a numerator and a denominator of at most so many digits each fit a line of a certificate together
 unfoldable pub half_line : ℕ
 half_line = 7680
 

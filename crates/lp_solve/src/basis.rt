@@ -62,7 +62,7 @@ pub(crate) fn dual_basis(
     }
 }
 
-// The statuses as a basis of the form, where there are statuses.
+// The statuses as a basis of the form; none where there are none.
 pub(crate) fn basis_of(form: &Form, statuses: Option<StatusList>) -> Option<Basis>
     requires { IfSome statuses (λ basis. IsBasisOf form.now basis) }
     ensures { result ≡ statuses }

@@ -24,8 +24,8 @@ use std::alloc::{AllocError, Global};
 /// is spent (`Spent`).
 pub type End = spec_check::SolveEnd<Frac, Fracs, Basis>;
 
-/// The certificate with what the checker says of it. It never says no to that of an end (`ends_are_accepted` of
-/// spec_runs).
+/// The end of a cold solve by what the checker says of its certificate: yes with an answer, or an overflow. It never
+/// says no to that of an end (`ends_are_accepted` of spec_runs).
 pub(crate) fn checked_cold(
     model: &Model,
     certificate: Certificate,
@@ -54,7 +54,8 @@ pub(crate) fn checked_cold(
     }
 }
 
-// The certificate of the end of both phases.
+// The certificate of the end of both phases: of an optimum, of an unbounded model, or, after phase one alone, of an
+// infeasible one.
 fn certificate(alloc: Global, ended: &Ended) -> Result<Certificate, AllocError>
     requires { IsInside ended.now.tab ended.now.end }
     ensures value { IfOk result (λ c. c ≡ cold.certificate_of (end_of ended.now)) }
@@ -66,7 +67,7 @@ fn certificate(alloc: Global, ended: &Ended) -> Result<Certificate, AllocError>
     }
 }
 
-// The statuses of the basis of both phases' end, if this is optimal.
+// The statuses of the basis of both phases' end, if this is optimal; else none.
 fn statuses(alloc: Global, ended: &Ended) -> Result<Option<StatusList>, AllocError>
     ensures { IfOk result (λ b. b ≡ cold.basis_of (end_of ended.now)) }
 {
@@ -91,7 +92,8 @@ fn finished(alloc: Global, model: &Model, form: &Form, ended: &Ended) -> Result<
     Ok(checked_cold(model, certificate, basis_of(form, statuses), ended.used))
 }
 
-/// Runs phase one and phase two on the form of the model, and checks the certificate of their end.
+/// The cold solve over whole tableaus: it runs both phases on the form of the model within the budget, and has the
+/// certificate of their end checked. It ends with that answer, or with `Past` or `Spent` where it gives up.
 pub(crate) fn from_form(
     alloc: Global,
     budget: u64,

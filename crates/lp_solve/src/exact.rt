@@ -62,7 +62,7 @@ fn settled(
     })
 }
 
-// An exact answer with the final basis, if the certificate's numbers are those of that basis.
+// An exact answer with its final basis, if the certificate's numbers are those of that basis; else without one.
 fn settled_at(
     alloc: Global,
     model: &Model,
@@ -102,8 +102,8 @@ fn or_open(found: Option<ExactAnswer>) -> ExactEnd
     }
 }
 
-// Looks for an answer where a solve at 127 bits is refused an operation: over rows from the starting basis, by a float
-// run, and over rows from the start that each model has.
+// Looks for an answer where a solve at 127 bits is refused an operation: over rows from the starting basis, then by a
+// float run, at last over rows from the start that each model has. Without a starting basis only the last is tried.
 fn beyond(
     alloc: Global,
     model: &Model,
@@ -194,8 +194,8 @@ fn by_form(
     }
 }
 
-// The exact end of a model that has no form: bounds that clash are their own certificate. It is out of memory only
-// where the making of the form was.
+// The exact end of a model that has no form: infeasible, with bounds that clash as the certificate; or open, where the
+// making of the form was refused an operation. It is out of memory only where the making of the form was.
 fn formless(model: &Model, stop: FormStop) -> Result<ExactEnd, AllocError>
     requires { IsFaultOf (form_of (Some number_limit) model.now) stop }
     ensures end { (budget : ℕ) → IfOk result (IsExactEnd model.now budget None) }
@@ -214,8 +214,8 @@ fn formless(model: &Model, stop: FormStop) -> Result<ExactEnd, AllocError>
     }
 }
 
-// Solves a model past the usual limits without a starting basis: bounds that clash are found without a run, else a
-// float run is asked.
+// Solves a model past the usual limits without a starting basis: bounds that clash are found without a run, and where
+// its form is refused an operation it ends open; else a float run is asked.
 fn large_cold(alloc: Global, model: &Model) -> Result<ExactEnd, AllocError>
     requires { ¬ (IsUsual model.now) }
     ensures { (budget : ℕ) → IfOk result (IsExactEnd model.now budget None) }
@@ -267,7 +267,7 @@ fn large_exactly(
 }
 
 /// Solves the model, and has the certificate of its answer checked without a limit, unless it is that of a solve at 127
-/// bits, which was checked there.
+/// bits, which was checked there, or of bounds that clash.
 ///
 /// Without a starting basis it asks first for what the end of a run in floating point leads to: the answer of a basis,
 /// or that there is no optimum. From a starting basis it asks first for the answer of this basis, or of one that is

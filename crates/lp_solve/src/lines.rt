@@ -26,14 +26,14 @@ fn squared(alloc: Global, word: u64, times: u32) -> Result<Natural, AllocError>
     Ok(power)
 }
 
-// The power of ten with as many zeros as half a line has digits.
+// 10 to the power of 7,680: a numerator and a denominator of so many digits each fit a line together.
 fn line_power(alloc: Global) -> Result<Natural, AllocError>
     ensures { IfOk result (λ n. n ≡ lines.line_power) }
 {
     squared(alloc, STEP, SQUARINGS)
 }
 
-// Whether the number is below the power.
+// Whether the number is below the power of ten.
 #[tactic(auto, using(crate::proofs::LineLemmas::below_from))]
 fn is_below(number: &Natural, power: &Natural) -> bool
     ensures { IsTrue result → number.now < power.now }
@@ -48,7 +48,8 @@ fn both_below(lowest: &Lowest, power: &Natural) -> bool
     is_below(&lowest.top, power) && is_below(&lowest.bottom, power)
 }
 
-// Whether the number takes no more than a line.
+// Whether a fraction surely takes no more than a line: its numerator and its denominator, in lowest terms, are both
+// below the power of half a line.
 fn fits(alloc: Global, number: &Ratio, power: &Natural) -> Result<bool, AllocError>
     requires { power.now ≡ lines.line_power }
     ensures { IfOk result (λ b. IsTrue b → FitsLine number.now) }
@@ -59,7 +60,7 @@ fn fits(alloc: Global, number: &Ratio, power: &Natural) -> Result<bool, AllocErr
     Ok(is_short)
 }
 
-// Whether each number of the list takes no more than a line.
+// Whether each number of the list surely takes no more than a line, by the power of half a line.
 fn all_fit(alloc: Global, list: &[Ratio], power: &Natural) -> Result<bool, AllocError>
     requires { power.now ≡ lines.line_power }
     ensures { IfOk result (λ b. IsTrue b → All FitsLine list.now) }
@@ -72,7 +73,7 @@ fn all_fit(alloc: Global, list: &[Ratio], power: &Natural) -> Result<bool, Alloc
     Ok(true)
 }
 
-// Whether each number of both lists takes no more than a line.
+// Whether each number of both lists surely takes no more than a line, by the power of half a line.
 fn both_fit(
     alloc: Global,
     first: &[Ratio],
@@ -89,7 +90,7 @@ fn both_fit(
     }
 }
 
-// Whether each number of the certificate takes no more than a line, by the power of half a line.
+// Whether each number of the certificate surely takes no more than a line, by the power of half a line.
 fn numbers_fit(
     alloc: Global,
     certificate: &Certificate,

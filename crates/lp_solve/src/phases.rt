@@ -19,7 +19,7 @@ pub(crate) struct Ended {
     pub(crate) end: Option<PrimalEnd>,
 }
 
-// Runs phase one on the tableau, where an artificial is basic.
+// Runs phase one on the tableau, if an artificial is basic. Otherwise its end is at once `Optimal`.
 fn phase_one(tab: &mut Tableau, used: &mut u64, budget: u64) -> Result<PrimalEnd, RunStop>
     requires { used.old ≡ 0 }
     ensures { Runs (phases.phase_one (Some number_limit) budget tab.old) tab.new used.new result }
@@ -31,7 +31,8 @@ fn phase_one(tab: &mut Tableau, used: &mut u64, budget: u64) -> Result<PrimalEnd
     }
 }
 
-// Runs both phases on the tableau that the form begins with. They share the budget, which `used` counts.
+// Runs both phases on the tableau that the form begins with. They share the budget, which `used` counts. There is no
+// end where phase one leaves an artificial that is not 0: no point is feasible then.
 fn both_phases(
     tab: &mut Tableau,
     used: &mut u64,

@@ -34,7 +34,8 @@ const MORE_STEPS: u32 = 10_000;
 // The effort of a run without a limit on the numbers of its certificate, some minutes of it.
 const WIDE_WORK: u64 = 64_000_000_000;
 
-// What the checker without a limit says of the certificate, if it says yes and the numbers fit their lines.
+// The answer that the checker without a limit gives to the certificate; none if it says no, or the numerator or
+// denominator of a number is past half a line.
 fn accepted(
     alloc: Global,
     model: &Model,
@@ -54,7 +55,8 @@ fn accepted(
     }
 }
 
-// The answer of a certificate, if it is accepted.
+// The exact answer with this certificate and basis, if the checker accepts the certificate and its numbers fit their
+// lines; else none.
 fn answered(
     alloc: Global,
     model: &Model,
@@ -81,8 +83,8 @@ fn answered(
     }
 }
 
-// Whether the certificate is that of the basis: nonbasic columns and rows at their bounds, basic ones with reduced cost
-// 0.
+// Whether the certificate is that of an optimum at this basis: nonbasic columns and rows are at their bounds, or at 0
+// by that status, and basic ones have reduced cost 0.
 fn is_at_basis(
     alloc: Global,
     model: &Model,
@@ -99,7 +101,7 @@ fn is_at_basis(
     }
 }
 
-/// The basis of an end, if the certificate is that of the basis.
+/// The basis that is left of an end, if there is one and the certificate is that of this basis; else none.
 pub(crate) fn basis_of_answer(
     alloc: Global,
     model: &Model,
@@ -174,7 +176,8 @@ fn basis_of_statuses(
     }
 }
 
-// The answer that a basis was lifted to, with its own basis.
+// The exact answer with the certificate that a basis was lifted to, and with its basis if it is one. None if the
+// certificate is not accepted.
 fn at_lifted(
     alloc: Global,
     model: &Model,
@@ -193,7 +196,8 @@ fn at_lifted(
     answered(alloc, model, certificate, basis, origin)
 }
 
-/// The answer of the basis, or of one that is reached from it in a few steps.
+/// The answer of the basis, or of one that is reached from it in a few steps, by lifting. None if that finds none, or
+/// its certificate is not accepted.
 pub(crate) fn at_basis(
     alloc: Global,
     model: &Model,
@@ -215,7 +219,8 @@ fn most_steps(model: &Model) -> u32 {
     MOST_STEPS + MORE_STEPS / (model.cols() + model.rows()).max(1)
 }
 
-// The answer of the basis that a run in floats ended with, or of one a few steps on.
+// What lifting finds at the basis that a run in floats ended with, or at one a few steps on. None if the run has no
+// end, or lifting finds nothing.
 fn lifted_at(
     alloc: Global,
     model: &Model,
@@ -252,7 +257,7 @@ fn moves(from: &[Status], to: &[Status]) -> u64 {
     moves
 }
 
-/// The answer that a run in floats leads to, without its basis.
+/// The answer that a run in floats from the start leads to, without its basis; none if it leads to none.
 pub(crate) fn at_float_end(alloc: Global, model: &Model) -> Result<Option<ExactAnswer>, AllocError>
     ensures { IfOk result (λ o. IfSome o (IsExactAnswer model.now)) }
 {
@@ -271,7 +276,8 @@ pub(crate) fn at_float_end(alloc: Global, model: &Model) -> Result<Option<ExactA
     }
 }
 
-/// The answer that a short run in floats from a basis leads to: that of the basis, where it is optimal in floats.
+/// The answer that a short run in floats from a basis leads to: that of the basis, where it is optimal in floats. None
+/// if it leads to none.
 pub(crate) fn at_near_end(
     alloc: Global,
     model: &Model,
@@ -289,7 +295,7 @@ pub(crate) fn at_near_end(
     }
 }
 
-/// The answer that a run in floats from a basis leads to.
+/// The answer that a run in floats from this basis leads to; none if it leads to none.
 pub(crate) fn at_float_end_from(
     alloc: Global,
     model: &Model,
@@ -307,7 +313,8 @@ pub(crate) fn at_float_end_from(
     }
 }
 
-/// The answer that a run in floats without the starting basis leads to.
+/// The answer that a run in floats from the start leads to, where there is a starting basis that it does not use. None
+/// if it leads to none.
 pub(crate) fn at_float_end_beside(
     alloc: Global,
     model: &Model,
@@ -356,7 +363,8 @@ fn at_row_end(
     answered(alloc, model, certificate, basis, origin_of(route, pivots))
 }
 
-/// The answer of the run over rows from the start that each model has, without a limit on their numbers.
+/// The answer of the run over integer rows from the start that each model has, in numbers of any width. None where the
+/// run gives up or the certificate is not accepted.
 pub(crate) fn over_rows(
     alloc: Global,
     model: &Model,
@@ -373,7 +381,8 @@ pub(crate) fn over_rows(
     }
 }
 
-/// The answer of the run over rows from the basis, without a limit on their numbers.
+/// The answer of the run over integer rows from the basis, in numbers of any width. None where the run gives up or the
+/// certificate is not accepted.
 pub(crate) fn over_rows_from(
     alloc: Global,
     model: &Model,

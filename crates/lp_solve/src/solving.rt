@@ -25,7 +25,7 @@ use std::alloc::{AllocError, Global};
 /// The pivots and flips that a solve of a new session may make.
 pub const OPENING_BUDGET: u64 = 10_000;
 
-// Why a warm start that stopped so was given up, as a solve tells it.
+// Why a warm start that stopped so was given up, as a solve tells it: without the operation that was refused.
 fn fall(stop: WarmStop) -> Fall
     ensures { result ≡ solve.fall_of stop }
 {
@@ -52,7 +52,7 @@ fn cold_after(
     Ok((cold_solve(alloc, budget, WORK, model, form)?, route))
 }
 
-// The warm start from the basis, and where that stops the cold solve.
+// The warm start from the basis; where that stops, the cold solve, with the reason why it fell back to that.
 fn warm_first(
     alloc: Global,
     budget: u64,
@@ -106,8 +106,8 @@ pub fn solve_formed(
     }
 }
 
-/// Solves a model that has no form, by why it has none: bounds that clash are their own certificate. It is out of
-/// memory only where the making of the form was.
+/// Solves a model that has no form, by why it has none: bounds that clash are their own certificate, and an operation
+/// past 127 bits is the end `Past`. The route is `Cold`. It is out of memory only where the making of the form was.
 pub fn solve_formless(model: &Model, stop: FormStop) -> Result<(End, Route), AllocError>
     requires { IsFaultOf (form_of (Some number_limit) model.now) stop }
     ensures solved { IfOk result (λ s. (budget : ℕ) → IsSolved model.now budget None (solve.solve_end s)) }

@@ -24,7 +24,8 @@ fn status_at(basis: &[Status], k: usize) -> Status
     }
 }
 
-// Whether column `j` is as its status says: basic with the reduced cost 0, or nonbasic at its bound.
+// Whether column `j` is as its status says: basic with the reduced cost 0, or nonbasic at the bound of its status, or
+// at 0 by the status `AtZero`. False where it lacks that bound.
 fn column_stands(
     alloc: Global,
     model: &Model,
@@ -75,7 +76,8 @@ fn columns_stand(
     Ok(true)
 }
 
-// Whether row `i` is as its logical's status says: basic with the multiplier 0, or its sum at its limit.
+// Whether row `i` is as its logical's status says: basic with the multiplier 0, or its sum at the limit of its status,
+// or 0 by the status `AtZero`. False where it lacks that limit.
 fn row_stands(
     alloc: Global,
     model: &Model,
@@ -127,8 +129,9 @@ fn rows_stand(
     Ok(true)
 }
 
-/// Whether each column that is not basic is at its bound, a basic one has the reduced cost 0, and the rows so, by one
-/// walk over the model's entries for all reduced costs and one for all sums.
+/// Whether columns and rows stand as the basis says: each nonbasic one is at the bound of its status, or at 0, and each
+/// basic one has the reduced cost or multiplier 0. It takes one walk over the model's entries for all reduced costs,
+/// and, where the columns stand, one for all sums.
 pub(crate) fn stand_at_basis(
     alloc: Global,
     model: &Model,

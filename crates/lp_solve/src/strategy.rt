@@ -44,20 +44,23 @@ fn entry_count(form: &Form) -> usize {
     entries
 }
 
-// Whether there are many columns beside those of a basis, which has one a row. Each pivot of a tableau changes them
-// all; over factors those up to the one that enters are priced. More than three entries a column fill both alike.
+// Whether the entries, of which at most three a column on average count, are at least 180 more than two a row. Then
+// there are many columns beside those of a basis, which has one a row. Each pivot of a tableau changes them all; over
+// factors those up to the one that enters are priced. More than three entries a column fill both alike.
 fn has_columns_beside(form: &Form, entries: usize) -> bool {
     entries.min(COUNTED * form.cols() as usize) >= 2 * form.rows() as usize + BEYOND
 }
 
-// Whether a basis takes in most columns, which have at most two and three quarters entries on average. Where they
-// stand in chains of equations, their tableau fills with wide fractions, and their factors stay sparse.
+// Whether there are at least 48 rows and no more columns than rows, and the columns have at most two and three quarters
+// entries on average. A basis takes in most of them then. Where they stand in chains of equations, their tableau fills
+// with wide fractions, and their factors stay sparse.
 fn has_few_sparse_columns(form: &Form, entries: usize) -> bool {
     let (rows, cols) = (form.rows(), form.cols());
     rows >= MANY_ROWS && cols <= rows && entries <= 11 * cols as usize / 4
 }
 
-// Whether the run over factors is likely the quicker one, by the size of the model alone (docs/performance/factors.md).
+// Whether the run over factors is likely the quickest, by the counts of rows, columns and entries alone
+// (docs/performance/factors.md).
 fn suits_factors(form: &Form) -> bool {
     let entries = entry_count(form);
     has_columns_beside(form, entries) || has_few_sparse_columns(form, entries)
@@ -66,9 +69,9 @@ fn suits_factors(form: &Form) -> bool {
 // How many rows for each column a tall model has.
 const TALL: u32 = 4;
 
-// Whether the tableaus are likely quicker than the rows of whole numbers, of which a step looks at each number: in a
-// row the basic columns are 0, one for each row of the model, and a tableau passes over them
-// (docs/performance/rows.md).
+// Whether the form has at least four rows for each column. The tableaus are then likely quicker than the rows of whole
+// numbers, of which a step looks at each number: in a row the basic columns are 0, one for each row of the model, and a
+// tableau passes over them (docs/performance/rows.md).
 fn is_tall(form: &Form) -> bool {
     form.rows() / TALL >= form.cols()
 }
@@ -90,8 +93,8 @@ fn engines(form: &Form) -> [Engine; 3]
 /// changed counts for the square of its words.
 pub(crate) const WORK: u64 = 512_000_000;
 
-// Runs one engine, and has the certificate of its end checked at 127 bits. The rows give up where their effort passes
-// `work`.
+// Runs one engine, and has the certificate of its end, if it comes to one, checked at 127 bits. The rows give up where
+// their effort passes `work` too, and always as `Spent`.
 fn run(
     alloc: Global,
     budget: u64,
@@ -129,7 +132,7 @@ fn run(
     }
 }
 
-// The refusal that is kept after this engine ended with `end`: that of the tableaus.
+// The refusal that is kept after this engine gave up with `end`: `end` if it is the one over tableaus, else `refused`.
 fn refusal(engine: Engine, refused: End, end: End) -> End
     ensures { KeepsRefusal engine refused end result }
 {
@@ -146,8 +149,8 @@ fn refusal(engine: Engine, refused: End, end: End) -> End
 }
 
 /// A solve from the start that each model has: one engine after the other, until one has an answer. It is that of the
-/// cold solve without a limit, and the checker says yes to its certificate at 127 bits. Where all give up, it is what
-/// the tableaus are refused. The rows give up where their effort passes `work`.
+/// cold solve without a limit, and the checker says yes to its certificate at 127 bits. Where all give up, it ends as
+/// the tableaus do, `Past` or `Spent`. The rows give up where their effort passes `work` too.
 pub(crate) fn cold_solve(
     alloc: Global,
     budget: u64,

@@ -28,7 +28,7 @@ pub(crate) type Warm = spec_runs::Warm<Frac, Fracs, Basis>;
 /// Why a warm start stops without an answer.
 pub(crate) type WarmStop = spec_simplex::WarmStop<Frac>;
 
-// A stop of the run as one of the warm start.
+// The stop of a run, an overflow or a spent budget, as one of the warm start.
 fn run_stop(stop: RunStop) -> WarmStop
     ensures { result ≡ warm.run_stop stop }
 {
@@ -38,8 +38,8 @@ fn run_stop(stop: RunStop) -> WarmStop
     }
 }
 
-// The certificate with what the checker says of it. It never says no to that of an end (`warm_ends_are_accepted` of
-// spec_runs).
+// The end of a warm start by what the checker says of its certificate: yes with an answer, or an overflow. It never
+// says no to that of an end (`warm_ends_are_accepted` of spec_runs).
 fn checked_warm(model: &Model, certificate: Certificate, basis: Option<Basis>, pivots: u64) -> Warm
     requires fits { IsFor model.now certificate }
     requires never_no { (n : ℕ) → check_run (Some number_limit) model.now certificate ≢ Err (No n) }
@@ -63,7 +63,8 @@ fn checked_warm(model: &Model, certificate: Certificate, basis: Option<Basis>, p
     }
 }
 
-// Runs the primal method from a primal feasible tableau, and has the certificate of its end checked.
+// Runs the primal method from a primal feasible tableau, and has the certificate of its end checked. Where the run or
+// the check is refused an operation, or the budget is spent, the warm start stops.
 fn by_primal(
     alloc: Global,
     budget: u64,
@@ -89,7 +90,8 @@ fn by_primal(
     }
 }
 
-// Runs the dual method from a dual feasible tableau, and has the certificate of its end checked.
+// Runs the dual method from a dual feasible tableau, and has the certificate of its end checked. Where the run or the
+// check is refused an operation, or the budget is spent, the warm start stops.
 fn by_dual(
     alloc: Global,
     budget: u64,
@@ -115,8 +117,8 @@ fn by_dual(
     }
 }
 
-// Runs the method for which the tableau of the basis is feasible, or stops where it is neither primal nor dual
-// feasible.
+// Runs the method for which the tableau of the basis is feasible. It stops where the tableau is neither primal nor dual
+// feasible, an operation is past 127 bits, or the budget is spent.
 fn from_tableau(
     alloc: Global,
     budget: u64,
@@ -140,7 +142,8 @@ fn from_tableau(
 }
 
 /// The warm start: makes the tableau of the basis, runs the method for which it is feasible, and has the certificate of
-/// its end checked.
+/// its end checked. It stops where the basis is singular or feasible for neither method, an operation is past 127 bits,
+/// or the budget is spent.
 pub(crate) fn from_basis(
     alloc: Global,
     budget: u64,
