@@ -9,7 +9,7 @@ use Rattle.spec_exact.specs.Run.{quotient_run}
 use Rattle.spec_exact.proofs.Zero.{mul_right}
 use Rattle.spec_exact.specs.Narrow.{number_limit}
 
--- the quotient of a number by 0 is 0, and is not refused
+-- the quotient of a number of at most 127 bits by 0 is 0, and is not refused
 pub quotient_by_zero : (d a : ℚ) → IsWithin number_limit d → a ≡ 0ℚ → quotient_run (Some number_limit) d a ≡ Ok 0ℚ
 unfolding div inverse turned over whole
 quotient_by_zero d a w e =

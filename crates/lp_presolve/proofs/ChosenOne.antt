@@ -4,11 +4,11 @@
 -- `refused₁`: where the rule on clashes is refused an operation, choosing a reduction is refused it.
 -- `refused₂`: where no bounds clash and the rule on rows without entries is refused an operation, choosing a reduction
 --   is refused it.
--- `refused₃`: where neither of these rules finds anything and that on rows with one entry is refused, choosing a
---   reduction is refused.
+-- `refused₃`: where no bounds clash, each row has an entry, and the rule on rows with one entry is refused an
+--   operation, choosing a reduction is refused it.
 -- `found₁`: what the rule on clashes finds is chosen.
 -- `found₂`: where no bounds clash, what the rule on rows without entries finds is chosen.
--- `found₃`: where these two find nothing, what the rule on rows with one entry finds is chosen.
+-- `found₃`: where no bounds clash and each row has an entry, what the rule on rows with one entry finds is chosen.
 -- `found₄`: where the rules on clashes, on empty rows and on rows of one entry find nothing, the rule on fixed columns
 --   chooses, or the reductions are done.
 use Rattle.std.proofs.Common.{◌≡◌, Option, Some, None, Ok, Err, refl}

@@ -15,12 +15,12 @@ use Rattle.spec_presolve.specs.Presolved.{last_end, IsLast}
 use Rattle.spec_presolve.proofs.LastModel.{ends_well}
 use Rattle.spec_presolve.proofs.Halts.{halt_shows}
 
--- its certificate is one for it, with its conditions
+-- the certificate has the model's sizes, and its conditions hold of the model
 pub record Fits (m : Model) (c : ExactCertificate) : Type 0 where
   pub fits : IsFor m c
   pub checks : Checks m c
 
--- that of a solve
+-- where a solve of a model ends with a certificate, the certificate fits the model
 ended_fits : (m : Model) (budget : ℕ) (end : ExactSolveEnd) (c : ExactCertificate) (pivots : ℕ) →
     MayAnswer m budget end → last_end end ≡ Ok (c, pivots) → Fits m c
 ended_fits m budget (Ended known certificate basis n) c pivots may e =

@@ -61,7 +61,8 @@ pub record Reached (m : Model) (before : List Step) (k : ℕ) (n : Model) (now :
   pub leads : (rest : ℕ) → reduced_within (Some number_limit) (k + rest) m ≡ all_behind done (reduced_within
       (Some number_limit) rest n)
 
--- reductions that go behind some, which go behind others, go behind both together
+-- to put the reductions b before those of a run, and then a before these, is to put a and then b before those of the
+-- run
 two_behind : (a b : List (ExactReduction × Model)) (o : Run Reductions) →
     all_behind a (all_behind b o) ≡ all_behind (a ++ b) o
 two_behind a b (Ok r) =
@@ -116,7 +117,8 @@ at_left m n before now k left h l =
     (left - suc k)) n))
     (left_is k left l) (h.leads (suc (left - suc k)))
 
--- where the reductions ended at n, those from the first model on lead to n, and nothing is appended to their data
+-- where reductions of m lead to n and the run ends there, the run from m leads to n, and what is kept of these
+-- reductions is all that it appends
 closed : (m n : Model) (before now : List Step) (halt : Halt) (left : ℕ) (done : List (ExactReduction × Model)) →
     now ≡ before ++ all_kept done →
     reduced_within (Some number_limit) left m ≡ all_behind done (Ok (record { steps = []; last = n; halt = halt })) →

@@ -1,6 +1,6 @@
 -- A reduction that was chosen, and the model after it.
 --
--- `goes_as`: a chosen reduction that is s is one that may go.
+-- `goes_as`: where the reduction r is chosen, and r is s, s may be made of the model.
 -- `after_empty`: the model without the row is the model after the reduction of a row without entries.
 -- `after_single`: the model with tighter bounds and without the row is the model after the reduction of a row with one
 --   entry.

@@ -37,6 +37,8 @@ use Rattle.lp_presolve.proofs.Lasts.{Fits, last_fits}
 
 -- ---- the model as it is
 
+-- where each end that says that m was solved as it is, for the reason w, fits the reductions of m, each such end is one
+-- that the presolved solve of m may have
 falls : (m : Model) (budget : ℕ) (w : ExactWhy) →
     ((p : ExactPresolved) → IsPlain m budget w p → ByReductions m budget (reduced (Some number_limit) m) p) → Falls m budget w
 falls m budget w f p (way, (solved, is, end)) =
@@ -73,6 +75,7 @@ module _ (m last : Model) (budget : ℕ) (now : List Step) (halt : Halt) (l : Le
         clash_inside (Clash k) f = omega (arith, f)
         clash_inside (Unbounded x r) f = omega arith
 
+    -- where carrying the last model's certificate back stops, the model is to be solved as it is, for that reason
     pub not_carried : {C : Type 0} (e : Stop C) → Tells (carried (Some number_limit) l.steps c) (Err e) →
         Tries m budget (Err e)
     not_carried (stop.Cause x) t = absurd t
@@ -88,9 +91,11 @@ module _ (m last : Model) (budget : ℕ) (now : List Step) (halt : Halt) (l : Le
       is_carried : IsCarried m last c back
       is_carried = carries (Some number_limit) m all c back l.run t fit.fits fit.checks
 
+      -- the certificate that is carried back fits the first model
       pub back_fits : IsFor m back
       back_fits = is_carried.fits
 
+      -- the check of the certificate that is carried back never says no
       pub never_no : (n : ℕ) → check_run (Some number_limit) m back ≢ Err (check.No n)
       unfolding Agrees
       never_no n e = by (run_agrees (Some number_limit) m back)
@@ -111,11 +116,14 @@ module _ (m last : Model) (budget : ℕ) (now : List Step) (halt : Halt) (l : Le
           subst (λ r. ByReductions m budget r p) (sym l.run)
           (Ok (c, pivots), is, subst (λ b. ByCarried m budget last pivots b p) (sym t) by)
 
+      -- where the check of the certificate carried back is refused an operation, the model is to be solved as it is,
+      -- for that reason
       pub not_accepted : (q : Refusal ℚ) → Accepts m last back pivots (Err q) → Falls m budget (why.Past q)
       not_accepted q refused =
           falls m budget (why.Past q)
           (λ p plain. checked p (subst (λ v. ByCheck m budget last back pivots v p) (sym refused) plain))
 
+      -- where the certificate carried back has at most 127 bits and is accepted, the model is presolved with it
       pub found : (p : ExactPresolved) → IsNarrowCertificate back → Accepts m last back pivots (Ok p) →
           IsPresolved m budget p
       found p narrow (known, says, e) = subst (IsPresolved m budget) (sym e) whole

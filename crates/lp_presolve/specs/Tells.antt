@@ -10,20 +10,20 @@ use Rattle.spec_exact.specs.Run.{Run}
 use Rattle.lp_frac.specs.declared.stop.Stop.{Stop}
 use Rattle.lp_frac.specs.declared.stop.Stop.TheVariants.{Cause, Past, NoMemory}
 
--- the result is that of the run, or memory was wanting; there is no other cause
+-- the code's result is that of the run: its value or its refusal; of a stop for lack of memory nothing is asked
 abbrev pub Tells : {A C : Type 0} → Run A → Result A (Stop C) → Type 0
 Tells run (Ok a) = run ≡ Ok a
 Tells run (Err (Cause c)) = ⊥
 Tells run (Err (Past p)) = run ≡ Err p
 Tells run (Err NoMemory) = Unit {0}
 
--- the reductions give this model and this end, and their data is appended to the list
+-- the run gives reductions with this last model and this halt, and what is kept of them is appended to the list
 abbrev pub LeadsTo : Run Reductions → Model → List Step → List Step → Halt → Type 0
 LeadsTo run m before after halt =
     (steps : List (ExactReduction × Model)) × (run ≡ Ok (record { steps = steps; last = m; halt = halt }))
     × (after ≡ before ++ all_kept steps)
 
--- the run is refused so, or memory was wanting
+-- the run is refused for the same operation as the code; of a stop for lack of memory nothing is asked
 abbrev pub StopsAt : {A C : Type 0} → Run A → Stop C → Type 0
 StopsAt run (Cause c) = ⊥
 StopsAt run (Past p) = run ≡ Err p

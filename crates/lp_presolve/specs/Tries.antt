@@ -20,31 +20,35 @@ use Rattle.lp_frac.specs.declared.stop.Stop.TheVariants.{Cause, Past, NoMemory}
 use Rattle.lp_presolve.specs.declared.step.Step.{Step}
 use Rattle.lp_presolve.specs.Kept.{all_kept}
 
--- the last model ends so, or memory was wanting; the one cause is that the budget is spent
+-- the last model may end as the code gives it: with a certificate, past the limit or with a spent budget; of a stop for
+-- lack of memory nothing is asked
 abbrev pub LastTells : {C : Type 0} → Model → ℕ → Option ExactCertificate → Result (ExactCertificate × ℕ) (Stop C) → Type 0
 LastTells last budget halted (Ok end) = IsLast last budget halted (Ok end)
 LastTells last budget halted (Err (Cause c)) = IsLast last budget halted (Err why.Spent)
 LastTells last budget halted (Err (Past q)) = IsLast last budget halted (Err (why.Past q))
 LastTells last budget halted (Err NoMemory) = Unit {0}
 
--- the checker says yes, and it is an answer by the last model; or an operation is refused
+-- The code's result fits the check of the certificate that was carried back: with a yes, p is the answer by the last
+-- model; else the check is refused for the same operation.
 abbrev pub Accepts : Model → Model → ExactCertificate → ℕ → Result ExactPresolved (Refusal ℚ) → Type 0
 Accepts m last back pivots (Ok p) =
     (known : Known ℚ) × (check_run (Some number_limit) m back ≡ Ok known)
     × (p ≡ record { way = Reduced (height last) (width last); end = Ended known back None pivots })
 Accepts m last back pivots (Err q) = check_run (Some number_limit) m back ≡ Err (check.Past q)
 
--- the reductions of the model, of which these steps are kept, end so at the last model
+-- the reductions of the model m lead to the model `last` and end there for the reason `halt`, and `kept` is what the
+-- code keeps of them
 pub record Led (m last : Model) (kept : List Step) (halt : Halt) : Type 0 where
   pub steps : List (ExactReduction × Model)
   pub run : reduced (Some number_limit) m ≡ Ok (record { steps = steps; last = last; halt = halt })
   pub are_kept : kept ≡ all_kept steps
 
--- the model is to be solved as it is, for this reason
+-- each end that says that the model was solved as it is, for this reason, is one that its presolved solve may have
 abbrev pub Falls : Model → ℕ → ExactWhy → Type 0
 Falls m budget why = (p : ExactPresolved) → IsPlain m budget why p → IsPresolved m budget p
 
--- presolving ended with an answer that is allowed; or the model is to be solved as it is; or memory ran out
+-- The code's result is right: an end that a presolved solve may have; or the reason for which the model is to be solved
+-- as it is. Of a stop for lack of memory nothing is asked.
 abbrev pub Tries : {C : Type 0} → Model → ℕ → Result ExactPresolved (Stop C) → Type 0
 Tries m budget (Ok p) = IsPresolved m budget p
 Tries m budget (Err (Cause c)) = Falls m budget why.Spent

@@ -7,7 +7,7 @@ ghost use Rattle.spec_presolve.specs.Choose as choose;
 use lp_frac::{Frac, Past, cmp, den, div, num};
 use std::cmp::Ordering;
 
-// The limit divided by the entry, if there is a limit.
+// The limit divided by the entry; none where there is no limit. Refused where the quotient is past 127 bits.
 pub(crate) fn quotient(limit: Option<Frac>, entry: Frac) -> Result<Option<Frac>, Past>
     requires { entry ≢ 0ℚ }
     ensures { result ≡ choose.quotient (Some number_limit) limit entry }
@@ -18,7 +18,7 @@ pub(crate) fn quotient(limit: Option<Frac>, entry: Frac) -> Result<Option<Frac>,
     }
 }
 
-// Whether a bound is 10 ^ 20 or more from 0: its denominator fits as many times into its numerator.
+// Whether a bound is 10 ^ 20 or more in absolute value. An absent bound is not.
 pub(crate) fn is_far(bound: &Option<Frac>) -> bool
     ensures { result ≡ choose.is_far bound.now }
 {
@@ -30,7 +30,8 @@ pub(crate) fn is_far(bound: &Option<Frac>) -> bool
     }
 }
 
-// The new lower bound, if the one that was there is below it.
+// The new lower bound, if there is one and it is above the old one; else none. Any is above an absent one. Refused
+// where comparing the two is past 127 bits.
 pub(crate) fn raised(bound: Option<Frac>, old: Option<Frac>) -> Result<Option<Frac>, Past>
     ensures { result ≡ choose.raised (Some number_limit) bound old }
 {
@@ -44,7 +45,8 @@ pub(crate) fn raised(bound: Option<Frac>, old: Option<Frac>) -> Result<Option<Fr
     }
 }
 
-// The new upper bound, if the one that was there is above it.
+// The new upper bound, if there is one and it is below the old one; else none. Any is below an absent one. Refused
+// where comparing the two is past 127 bits.
 pub(crate) fn cut(bound: Option<Frac>, old: Option<Frac>) -> Result<Option<Frac>, Past>
     ensures { result ≡ choose.cut (Some number_limit) bound old }
 {

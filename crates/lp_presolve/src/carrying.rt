@@ -54,7 +54,8 @@ fn put(list: &mut Fracs, place: u32, v: Frac) -> Result<(), AllocError>
     }
 }
 
-// The reduced cost of the step's column.
+// The reduced cost of the step's column by the multipliers of the step's rows. The cost is negated where the objective
+// is to be made greatest. Refused where an operation is past 127 bits.
 fn reduced(step: &Step, y: &Fracs) -> Result<Frac, Past>
     ensures { result ≡ reduced_by (Some number_limit) step.now y.now }
 {
@@ -65,7 +66,7 @@ fn reduced(step: &Step, y: &Fracs) -> Result<Frac, Past>
     Ok(d)
 }
 
-// The sum of the multipliers times the entries of the step's column.
+// The sum of the multipliers times the entries of the step's column. Refused where an operation is past 127 bits.
 fn priced(step: &Step, y: &Fracs) -> Result<Frac, Past>
     ensures { result ≡ priced_by (Some number_limit) step.now y.now }
 {
@@ -76,7 +77,7 @@ fn priced(step: &Step, y: &Fracs) -> Result<Frac, Past>
     Ok(sum)
 }
 
-// `d / a`, and 0 where `a` is 0.
+// `d / a`, and 0 where `a` is 0. Refused where the quotient is past 127 bits.
 fn over_entry(d: Frac, a: Frac) -> Result<Frac, Past>
     ensures { result ≡ quotient_run (Some number_limit) d a }
 {
@@ -85,7 +86,7 @@ fn over_entry(d: Frac, a: Frac) -> Result<Frac, Past>
 }
 
 // Whether the row gave the bound that a reduced cost `d` needs: the lower one where it is positive, the upper one where
-// it is negative.
+// it is negative. No for 0, which needs none.
 fn is_given(lower: Option<Frac>, upper: Option<Frac>, d: Frac) -> bool
     ensures { result ≡ carry.is_given lower upper d }
 {
@@ -98,14 +99,15 @@ fn is_given(lower: Option<Frac>, upper: Option<Frac>, d: Frac) -> bool
     }
 }
 
-// The multiplier that the row takes over from the column: `d / a` where the row gave the bound, else 0.
+// The multiplier that the row takes over from the column: `d / a` where the row gave the bound, as `t` says, else 0.
+// Refused where the quotient is past 127 bits.
 fn taken_over(t: bool, d: Frac, a: Frac) -> Result<Frac, Past>
     ensures { result ≡ carry.taken_over (Some number_limit) t d a }
 {
     if t { over_entry(d, a) } else { Ok(zero()) }
 }
 
-// A list with `v` at `i` and `n` other numbers, which are 0.
+// A list with `v` at `i`, or last where `i` is past `n`, and `n` other numbers, which are 0.
 pub(crate) fn alone_at(alloc: Global, n: u32, i: u32, v: Frac) -> Result<Fracs, AllocError>
     ensures { IfOk result (λ list. list ≡ carry.alone_at n i v) }
 {
@@ -114,7 +116,8 @@ pub(crate) fn alone_at(alloc: Global, n: u32, i: u32, v: Frac) -> Result<Fracs, 
     Ok(list)
 }
 
-// The multiplier of a row whose bound clashes with the column's other one, if the row gave a bound.
+// The multiplier of a row with one entry `a` that gave a bound which clashes with the column's other one: `1/a` if it
+// gave the lower one, else `-1/a`. None if it gave no bound. Refused where the quotient is past 127 bits.
 fn apart(a: Frac, lower: Option<Frac>, upper: Option<Frac>) -> Result<Option<Frac>, Past>
     ensures { result ≡ apart_by (Some number_limit) a lower upper }
 {
@@ -125,7 +128,7 @@ fn apart(a: Frac, lower: Option<Frac>, upper: Option<Frac>) -> Result<Option<Fra
     }
 }
 
-// Carries a certificate back over a row without entries, whose multiplier is 0.
+// Carries a certificate back over a row without entries: its multiplier is 0. A clash or a ray stays.
 fn over_empty(row: u32, certificate: Certificate) -> Result<Certificate, AllocError>
     ensures { IfOk result (λ c. c ≡ carry.over_empty row certificate) }
 {
@@ -142,7 +145,8 @@ fn over_empty(row: u32, certificate: Certificate) -> Result<Certificate, AllocEr
     }
 }
 
-// Carries a certificate back over a fixed column, which is at `value`.
+// Carries a certificate back over a fixed column, which is at `value`. The column comes in with that value, and with 0
+// in a ray. A clash gets its column's number before the fixed one was removed. Multipliers stay.
 fn over_fixed(column: u32, value: Frac, certificate: Certificate) -> Result<Certificate, AllocError>
     requires { clash_of certificate + 1 < 2 ^ 32 }
     ensures { IfOk result (λ c. c ≡ carry.over_fixed column value certificate) }
@@ -163,7 +167,7 @@ fn over_fixed(column: u32, value: Frac, certificate: Certificate) -> Result<Cert
 }
 
 // Carries a clash of column `k` back over a row with one entry `a`, beside `rows` others: where the row gave a bound of
-// this column, its multiplier shows that no point is feasible.
+// this column, its multiplier shows that no point is feasible. Else the clash stays.
 fn over_clash(
     alloc: Global,
     rows: u32,
@@ -188,7 +192,9 @@ fn over_clash(
     }
 }
 
-// Carries a certificate back over a row with one entry `a`.
+// Carries a certificate back over a row with one entry `a`. The row's multiplier takes over the column's reduced cost,
+// or of Farkas multipliers the negative of their part in the column, divided by `a`, if the row gave the bound that the
+// sign asks for; else it is 0. A clash of the column may become multipliers. Other clashes and rays stay.
 fn over_single(
     alloc: Global,
     step: &Step,
@@ -219,7 +225,7 @@ fn over_single(
     }
 }
 
-// Carries a certificate back over one reduction.
+// Carries a certificate of the smaller model back over one reduction, to the model before it.
 fn over(alloc: Global, step: &Step, certificate: Certificate) -> Result<Certificate, Stop<Spent>>
     requires { clash_of certificate + 1 < 2 ^ 32 }
     ensures clash { IfOk result (λ c. clash_of c ≤ clash_of certificate + 1) }

@@ -18,7 +18,8 @@ pub(crate) type Reduction = spec_presolve::Reduction<Frac>;
 /// What comes next: a reduction, or the end of all.
 pub(crate) type Choice = spec_presolve::Choice<Frac>;
 
-// Whether the lower bound is above the upper one.
+// Whether the lower bound is above the upper one. It is not where one is absent. Refused where comparing the two is
+// past 127 bits.
 fn crossed(lower: Option<Frac>, upper: Option<Frac>) -> Result<bool, Past>
     ensures { result ≡ choose.crossed (Some number_limit) lower upper }
 {
@@ -31,7 +32,7 @@ fn crossed(lower: Option<Frac>, upper: Option<Frac>) -> Result<bool, Past>
     }
 }
 
-// The end of the reductions by column `j`, if its bounds clash.
+// The end of the reductions by column `j`, if its bounds clash; else none.
 fn clash_at(model: &Model, j: u32) -> Result<Option<Choice>, Past>
     requires { j < width model.now }
     ensures { result ≡ choose.clash_at (Some number_limit) model.now j }
@@ -77,7 +78,8 @@ fn empty_row(row: u32, lower: Option<Frac>, upper: Option<Frac>) -> Choice
     }
 }
 
-// What comes next by row `i`, if it has no entries.
+// What comes next by row `i`, if it has no entries: it goes, or no point is feasible as 0 is beyond its limits; else
+// none.
 fn empty_at(model: &Model, i: u32) -> Result<Option<Choice>, Past>
     requires { i < height model.now }
     ensures { result ≡ choose.empty_at (Some number_limit) model.now i }
@@ -91,7 +93,8 @@ fn empty_at(model: &Model, i: u32) -> Result<Option<Choice>, Past>
     }
 }
 
-// Row `row` goes, which has one entry `value` and holds its column between these two bounds.
+// The reduction that drops row `row`, whose one entry `value` holds its column between these two bounds. It notes those
+// that are tighter than the column's own.
 fn given(
     model: &Model,
     row: u32,
@@ -122,7 +125,8 @@ fn are_far(least: &Option<Frac>, most: &Option<Frac>) -> bool
     if is_far(least) { true } else { is_far(most) }
 }
 
-// Row `row` becomes bounds of its column as by `given`, unless one of them would be 10^20 or more in absolute value.
+// The reduction of row `row` with one entry `value`. Its lower and its upper limit, divided by that, are `least` and
+// `most`; for a negative entry the first is the column's upper bound. None if one of these is 10^20 or more from 0.
 fn near(
     model: &Model,
     row: u32,
@@ -143,7 +147,7 @@ fn near(
     }
 }
 
-// What comes next by row `i`, if it has one entry.
+// The reduction of row `i`, if it has one entry and the bounds that it gives are not too far; else none.
 fn single_at(model: &Model, i: u32) -> Result<Option<Choice>, Past>
     requires { i < height model.now }
     ensures { result ≡ choose.single_at (Some number_limit) model.now i }
@@ -159,7 +163,7 @@ fn single_at(model: &Model, i: u32) -> Result<Option<Choice>, Past>
     }
 }
 
-// The reduction of a column, if both of its bounds are the same.
+// The reduction of a column whose bounds are the same; else none.
 fn fixed_by(column: u32, lower: Option<Frac>, upper: Option<Frac>) -> Option<Choice>
     ensures { result ≡ choose.fixed_by column lower upper }
 {
@@ -174,7 +178,7 @@ fn fixed_by(column: u32, lower: Option<Frac>, upper: Option<Frac>) -> Option<Cho
     }
 }
 
-// What comes next by the first column whose bounds clash.
+// The end of the reductions by the first column whose bounds clash; none if none do.
 fn first_clash(model: &Model) -> Result<Option<Choice>, Past>
     ensures { result ≡ choose.first (width model.now) (choose.clash_at (Some number_limit) model.now) }
 {
@@ -186,7 +190,8 @@ fn first_clash(model: &Model) -> Result<Option<Choice>, Past>
     Ok(None)
 }
 
-// What comes next by the first row without entries.
+// What comes next by the first row without entries: it goes, or no point is feasible as 0 is beyond its limits. None if
+// each row has an entry.
 fn first_empty(model: &Model) -> Result<Option<Choice>, Past>
     ensures { result ≡ choose.first (height model.now) (choose.empty_at (Some number_limit) model.now) }
 {
@@ -198,7 +203,7 @@ fn first_empty(model: &Model) -> Result<Option<Choice>, Past>
     Ok(None)
 }
 
-// What comes next by the first row with one entry.
+// The reduction of the first row with one entry that may go; none if there is no such row.
 fn first_single(model: &Model) -> Result<Option<Choice>, Past>
     ensures { result ≡ choose.first (height model.now) (choose.single_at (Some number_limit) model.now) }
 {
@@ -210,7 +215,7 @@ fn first_single(model: &Model) -> Result<Option<Choice>, Past>
     Ok(None)
 }
 
-// The reduction of the first column that is fixed.
+// The reduction of the first column whose bounds are the same; none if there is none.
 fn first_fixed(model: &Model) -> Option<Choice>
     ensures { Ok result ≡ choose.first (width model.now) (choose.fixed_at model.now) }
 {
@@ -223,7 +228,9 @@ fn first_fixed(model: &Model) -> Option<Choice>
     None
 }
 
-/// What comes next: the first row or column that goes by the first rule that applies, or that none does.
+/// What comes next, by the first of these that there is. The reductions end by the first column whose bounds clash. The
+/// first row without entries goes, or ends them where 0 is beyond its limits. The first row with one entry goes whose
+/// bounds are not too far. The first fixed column goes. Else the reductions are done.
 pub(crate) fn choose(model: &Model) -> Result<Choice, Past>
     ensures { result ≡ choose.chosen (Some number_limit) model.now }
 {

@@ -32,7 +32,8 @@ fn halted(alloc: Global, model: &Model, halt: Halt) -> Result<Option<Certificate
     }
 }
 
-// The certificate of a solve of the model within the budget, with the count of pivots.
+// The certificate of a solve of the model within the budget, with the count of pivots. An overflow or a spent budget
+// stops it.
 fn solved(alloc: Global, model: &Model, budget: u64) -> Result<(Certificate, u64), Stop<Spent>>
     requires { IsUsual model.now }
     ensures { LastTells model.now budget None result }
@@ -49,7 +50,8 @@ fn solved(alloc: Global, model: &Model, budget: u64) -> Result<(Certificate, u64
     }
 }
 
-/// A certificate of the model at which the reductions ended so, with the count of pivots.
+/// A certificate of the model at which the reductions ended: by the end itself where that shows that no point is
+/// feasible, else by a solve. The count of pivots comes with it.
 pub(crate) fn last_certificate(
     alloc: Global,
     model: &Model,

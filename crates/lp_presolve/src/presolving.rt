@@ -55,7 +55,8 @@ fn is_narrow(certificate: &Certificate)
     }
 }
 
-// What the checker says of a certificate that was carried back from the last model: it never says no.
+// The end of a presolved solve by the answer that the checker gives to a certificate carried back from the last model.
+// It never says no; its overflow is passed on.
 fn accepted(
     model: &Model,
     last: &Model,
@@ -103,7 +104,8 @@ fn from_last(
     Ok(accepted(model, last, certificate, pivots)?)
 }
 
-// Makes a smaller model and solves the model by it.
+// Makes the model smaller as far as it goes, solves that smaller model, and carries the certificate back. An overflow
+// or a spent budget stops it.
 fn by_smaller(alloc: Global, model: &Model, budget: u64) -> Result<Presolved, Stop<Spent>>
     requires { IsUsualModel model.now }
     ensures { Tries model.now budget result }
@@ -114,7 +116,7 @@ fn by_smaller(alloc: Global, model: &Model, budget: u64) -> Result<Presolved, St
     from_last(alloc, model, &last, steps.as_slice(), halt, budget)
 }
 
-// Solves the model as it is, for this reason.
+// Solves the model as it is, which `why` gives the reason for.
 fn plain(alloc: Global, model: &Model, budget: u64, why: Why) -> Result<Presolved, AllocError>
     requires { IsUsual model.now }
     ensures { IfOk result (IsPlain model.now budget why) }

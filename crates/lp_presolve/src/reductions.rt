@@ -22,7 +22,8 @@ use thiserror::Error;
 #[error("the budget of pivots and flips is spent")]
 pub(crate) struct Spent;
 
-// Makes the reduction that was chosen for the model, and appends its data to `steps`.
+// Makes the reduction that was chosen for the model, and appends it, with what certificates need of the smaller model,
+// to `steps`.
 fn go_on(
     alloc: Global,
     model: &mut Model,
@@ -41,8 +42,8 @@ fn go_on(
     Ok(())
 }
 
-/// Makes the model smaller by at most `left` reductions, and appends their data to `steps`. After a refusal the model
-/// is of no more use.
+/// Makes the model smaller by at most `left` reductions, and appends what is kept of each to `steps`. Gives why no
+/// other follows, which is `Done` too where `left` were made. After a refusal the model is of no more use.
 pub(crate) fn reduce(
     alloc: Global,
     model: &mut Model,

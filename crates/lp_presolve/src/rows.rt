@@ -9,7 +9,7 @@ use lp_model::Model;
 // The entries of a row: none, one, or more.
 pub(crate) type InRow = spec_presolve::InRow<Frac>;
 
-// What was found in a row, with one entry more.
+// What was found in a row, with the entry of one more column. An entry of 0 counts for none.
 fn and_next(found: InRow, column: u32, value: Frac) -> InRow
     ensures { result ≡ choose.and_next found column value }
 {

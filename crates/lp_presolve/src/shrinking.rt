@@ -23,7 +23,7 @@ fn or_old(bound: Option<Frac>, old: Option<Frac>) -> Option<Frac>
     }
 }
 
-// Gives column `j` these bounds, where there are any, and removes row `i`.
+// Gives column `j` the new bounds that there are, and removes row `i`.
 fn without_single(model: &mut Model, i: u32, j: u32, lower: Option<Frac>, upper: Option<Frac>)
     requires kept { IsModel model.old }
     requires i_in_range { i < height model.old }
@@ -40,7 +40,7 @@ fn without_single(model: &mut Model, i: u32, j: u32, lower: Option<Frac>, upper:
     model.remove_row(i);
 }
 
-// Takes off each right side what column `j` adds to the row where it is at `value`.
+// Subtracts from each right side what column `j` adds to its row at `value`. After a refusal some may be changed.
 fn shift(model: &mut Model, j: u32, value: Frac) -> Result<(), Past>
     requires { j < width model.old }
     ensures ok { OnOk result (reduce.shifted (Some number_limit) model.old j value ≡ Ok model.new) }
@@ -53,7 +53,8 @@ fn shift(model: &mut Model, j: u32, value: Frac) -> Result<(), Past>
     Ok(())
 }
 
-// Removes column `j`, which is at `value`: right sides and offset change by its part.
+// Removes column `j`, which is at `value`: right sides are less by what it adds to their rows, and the offset is more
+// by its cost times `value`. Refused where a number is past 127 bits; then nothing is said of the model.
 fn without_fixed(model: &mut Model, j: u32, value: Frac) -> Result<(), Past>
     requires { j < width model.old }
     ensures ok { OnOk result (reduce.after (Some number_limit) model.old (Fixed j value) ≡ Ok model.new) }
@@ -68,7 +69,8 @@ fn without_fixed(model: &mut Model, j: u32, value: Frac) -> Result<(), Past>
     Ok(())
 }
 
-/// Makes the model smaller by the reduction that was chosen for it. After a refusal the model is open.
+/// Makes the model smaller by the reduction that was chosen for it. Refused where a number is past 127 bits; then
+/// nothing is said of the model.
 pub(crate) fn shrink(model: &mut Model, reduction: &Reduction) -> Result<(), Past>
     requires kept { IsModel model.old }
     requires chosen { chosen (Some number_limit) model.old ≡ Ok (Reduce reduction.now) }

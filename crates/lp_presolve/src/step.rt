@@ -22,7 +22,8 @@ pub(crate) struct Step {
 /// Reductions in their order.
 pub(crate) type Steps = Items<Step>;
 
-/// The record of one reduction step, for carrying a certificate back.
+/// The record of a reduction, for carrying a certificate back. `model` is the one that the reduction led to: of it are
+/// the count of rows, the sense, and the cost and the entries of the column that has new bounds.
 pub(crate) fn step_of(
     alloc: Global,
     model: &Model,
