@@ -12,18 +12,21 @@ use Rattle.spec_iis.specs.Rule.{gathered}
 use Rattle.lp_iis.specs.Reading.{place_by, entry_by}
 
 module _ {A : Type 0} (p : ℕ → Bool) (f : ℕ → A) where
+  -- where index k passes the test, the items picked below k and then item k are the items picked below k + 1
   pub picked_more : (k : ℕ) (xs : List A) → xs ≡ picked p f k → p k ≡ true → xs ++ f k ∷ [] ≡ picked p f (k + 1)
   picked_more k xs h e = ap (λ ys. ys ++ f k ∷ []) h ∙ sym (ap (picked p f) (add-one k) ∙ step)
     where
       step : picked p f (suc k) ≡ picked p f k ++ f k ∷ []
       step = rw e refl
 
+  -- where index k fails the test, the items picked below k are the items picked below k + 1
   pub picked_same : (k : ℕ) (xs : List A) → xs ≡ picked p f k → p k ≡ false → xs ≡ picked p f (k + 1)
   picked_same k xs h e = h ∙ sym (ap (picked p f) (add-one k) ∙ step)
     where
       step : picked p f (suc k) ≡ picked p f k
       step = rw e refl
 
+-- the lists of f below k one after the other, and then f k, are those below k + 1, whatever list stands first
 pub gathered_more : {A : Type 0} (f : ℕ → List A) (k : ℕ) (first before after more : List A) →
     before ≡ first ++ gathered f k → after ≡ before ++ more → more ≡ f k → after ≡ first ++ gathered f (k + 1)
 gathered_more f k first before after more h e is =
@@ -32,6 +35,7 @@ gathered_more f k first before after more h e is =
 
 -- ---- rows
 module _ (r : ExactRow) where
+  -- a row with both limits, as a row of kind G with its lower limit, is the row with its lower side alone
   pub lower_single : (b : ℚ) → (limits_of r).lower ≡ Some b → is_some (limits_of r).upper ≡ true →
       single G r b ≡ only_row true false r
   unfolding only_row
@@ -42,6 +46,7 @@ module _ (r : ExactRow) where
       by (Some l) None e h = absurd (let z : false ≡ true = h in cc)
       by (Some l) (Some u) e h = ap (single G r) (let z : Some l ≡ Some b = e in sym cc)
 
+  -- a row without an upper limit is the row with its lower side alone
   pub lower_copy : is_some (limits_of r).upper ≡ false → r ≡ only_row true false r
   unfolding only_row
   lower_copy h = by (limits_of r).lower (limits_of r).upper h
@@ -51,6 +56,7 @@ module _ (r : ExactRow) where
       by (Some l) None h = refl
       by (Some l) (Some u) h = absurd (let z : true ≡ false = h in cc)
 
+  -- a row without a lower limit, as it is, is the row with its lower side alone
   pub lower_none : (limits_of r).lower ≡ None → r ≡ only_row true false r
   unfolding only_row
   lower_none h = by (limits_of r).lower (limits_of r).upper h
@@ -59,6 +65,7 @@ module _ (r : ExactRow) where
       by None u h = refl
       by (Some l) u h = absurd (let z : Some l ≡ None = h in cc)
 
+  -- a row with both limits, as a row of kind L with its upper limit, is the row with its upper side alone
   pub upper_single : (b : ℚ) → (limits_of r).upper ≡ Some b → is_some (limits_of r).lower ≡ true →
       single L r b ≡ only_row false true r
   unfolding only_row
@@ -69,6 +76,7 @@ module _ (r : ExactRow) where
       by (Some l) None e h = absurd (let z : None ≡ Some b = e in cc)
       by (Some l) (Some u) e h = ap (single L r) (let z : Some u ≡ Some b = e in sym cc)
 
+  -- a row without a lower limit is the row with its upper side alone
   pub upper_copy : is_some (limits_of r).lower ≡ false → r ≡ only_row false true r
   unfolding only_row
   upper_copy h = by (limits_of r).lower (limits_of r).upper h
@@ -77,6 +85,7 @@ module _ (r : ExactRow) where
       by None u h = refl
       by (Some l) u h = absurd (let z : true ≡ false = h in cc)
 
+  -- a row without an upper limit, as it is, is the row with its upper side alone
   pub upper_none : (limits_of r).upper ≡ None → r ≡ only_row false true r
   unfolding only_row
   upper_none h = by (limits_of r).lower (limits_of r).upper h
@@ -88,6 +97,7 @@ module _ (r : ExactRow) where
 
 -- ---- entries
 module _ (p : ℕ → Bool) where
+  -- the entries of two lists in the rows that stay are those of the first and then those of the second
   pub only_entries-append : (xs ys : List (ℕ × ℚ)) → only_entries p (xs ++ ys) ≡ only_entries p xs ++ only_entries p ys
   unfolding only_entries
   only_entries-append [] ys = refl
@@ -105,6 +115,7 @@ module _ (p : ℕ → Bool) where
       by true h = ap (λ es. moved x ∷ es) h
       by false h = h
 
+  -- an entry in its new place, if its row stays, is what stays of the list of it alone
   one_left : (e : ℕ × ℚ) → entry_by (place_by p e.0) e.1 ≡ only_entries p (e ∷ [])
   unfolding only_entries
   one_left e = by (p e.0)
@@ -114,6 +125,8 @@ module _ (p : ℕ → Bool) where
       by true = refl
       by false = refl
 
+  -- the entries of the first k that stay, with entry k in its new place if its row stays, are the entries of the first
+  -- k + 1 that stay
   pub entry_more : (es : List (ℕ × ℚ)) (k : ℕ) (e : ℕ × ℚ) (before after : List (ℕ × ℚ)) (place : Option ℕ) →
       take (k + 1) es ≡ take k es ++ e ∷ [] → before ≡ only_entries p (take k es) → place ≡ place_by p e.0 →
       after ≡ before ++ entry_by place e.1 → after ≡ only_entries p (take (k + 1) es)

@@ -23,6 +23,7 @@ use Rattle.spec_iis.proofs.Points.{side, stays_by}
 use Rattle.lp_iis.specs.Reading.{place_by, placed}
 
 module _ (m : Model) (sides : List Side) where
+  -- for each row of the model its number among those that stay, none where it does not stay
   abbrev places : List (Option ℕ)
   places = made (height m) (place_by (stays sides))
 
@@ -34,7 +35,7 @@ module _ (m : Model) (sides : List Side) where
       inside true e l = l
       inside false e l = absurd (let z : false ≡ true = e in cc)
 
-  -- its place is its number among those that stay
+  -- a listed side, moved to the place of its row among the rows that stay, is the side renumbered
   pub placed_same : (s : Side) → is_listed sides s ≡ true → IsSide m s → placed places s ≡ renumbered sides s
   placed_same s h present = by s.row s.at s.upper h present.inside
     where

@@ -39,7 +39,7 @@ use Rattle.lp_iis.proofs.Tried.{shown_infeasible}
 
 -- ---- the way
 
--- in front of the sides that are still to be looked at, with a few of the others that clash
+-- the search has kept some sides and has `rest` to try; and `clash` are a few of both that no point meets together
 pub record IsAhead (m : Model) (all kept rest : List Side) (points : List (List ℚ)) (clash : List Side) : Type 0 where
   pub way : IsOnWay m all kept rest points
   pub clashes : IsClash m (kept ++ rest) clash
@@ -62,18 +62,22 @@ ahead_at m all kept points clash i x l e a = subst (λ rest. IsAhead m all kept 
 
 module _ (m : Model) (all kept : List Side) (x : Side) (rest : List Side) (points : List (List ℚ)) (clash : List Side)
     (a : IsAhead m all kept (x ∷ rest) points clash) where
+  -- without the side that is looked at, each kept side and each side behind it is a side of the model
   pub others_present : All (IsSide m) (kept ++ rest)
   others_present = present_without m kept x rest a.way.filtered.present
 
+  -- without the side that is looked at, the limit of each kept side and of each side behind it is read without a
+  -- refusal
   pub others_read : All (IsRead (Some number_limit) m) (kept ++ rest)
   others_read =
       λ k d l. listed_holds (IsRead (Some number_limit) m) (kept ++ x ∷ rest) _ a.way.read (among_both kept x rest k d
       l)
 
-  -- what is tried is reached
+  -- without the side that is looked at, the kept sides and those behind it are reached from all sides
   pub others_reached : Reaches m [] all (kept ++ rest)
   others_reached = a.way.onward (kept ++ rest) (inl refl)
 
+  -- where the sides without the one that is looked at are infeasible still, the search goes on without it
   pub ahead_without : (few : List Side) → IsClash m (kept ++ rest) few → IsAhead m all kept rest points few
   ahead_without few h =
       let none = clash_infeasible m (kept ++ rest) few others_present h in
@@ -86,6 +90,7 @@ module _ (m : Model) (all kept : List Side) (x : Side) (rest : List Side) (point
         clashes = h;
       }
 
+  -- where a point keeps all sides but the one that is looked at, the search keeps this side, with the point
   pub ahead_kept : (z : List ℚ) → IsFeasible (only m (kept ++ rest)) z →
       IsAhead m all (kept ++ x ∷ []) rest (points ++ z ∷ []) clash
   ahead_kept z h = record {
@@ -136,26 +141,33 @@ begun_else budget m end other e h = (subst (EndsCold m budget) (same end other h
     by Spent other h = let q : Spent ≡ other = cc in subst IsElse q tt
 
 module _ (budget : ℕ) (m : Model) (cert : Certificate (List ℚ)) (b : IsBegun budget m cert) where
+  -- the certificate with which a search begins fits the model
   pub begun_fits : IsFor m cert
   begun_fits = b.ends.may_answer.0
 
+  -- the check accepts the certificate with which a search begins, as one of infeasibility
   pub begun_accepted : check_run (Some number_limit) m cert ≡ Ok known.Infeasible
   begun_accepted = b.ends.may_answer.2
 
+  -- a model with which a search begins is infeasible
   begun_infeasible : IsInfeasible m
   begun_infeasible =
       shown_infeasible m cert
       (record { fits = b.ends.may_answer.0; narrow = b.ends.may_answer.1; accepted = b.ends.may_answer.2 })
 
+  -- the sides that the certificate uses clash: no point keeps them all
   pub begun_clash : Clashes m (used m cert)
   begun_clash = used_clash (Some number_limit) m cert begun_fits begun_accepted
 
+  -- the limit of each side that the certificate uses is read without a refusal
   pub begun_read : All (IsRead (Some number_limit) m) (used m cert)
   begun_read = used_read (Some number_limit) m cert begun_accepted
 
+  -- sides that are reached from those of the certificate are sides that a search of the model may reach
   reached_at : (s : List Side) → Reaches m [] (used m cert) s → IsReached m budget s
   reached_at s r = record { certificate = cert; basis = b.basis; pivots = b.pivots; ends = b.ends; reached = r }
 
+  -- where a solve gives up at sides that are reached from those of the certificate, the search stops with its end
   pub stopped_at : (end : ExactSolveEnd) → GivesUpAt budget m end (λ s. Reaches m [] (used m cert) s) →
       IsStopped m budget end
   stopped_at end g = record {
@@ -166,6 +178,8 @@ module _ (budget : ℕ) (m : Model) (cert : Certificate (List ℚ)) (b : IsBegun
     gives_up = g.gives_up;
   }
 
+  -- where the search has come to the end of the certificate's sides with the kept ones, what it may end with may be
+  -- found for the model
   pub may_find : (kept : List Side) (points : List (List ℚ)) → IsOnWay m (used m cert) kept [] points →
       (i : ExactIis) → MayEnd budget m kept i → MayFind m budget i
   may_find kept points w (Found sides c ps) h = record {

@@ -2,7 +2,7 @@
 --
 -- `ends_cold`: a solve without a starting basis ends as a cold solve may.
 -- `shown_infeasible`: a model with an accepted certificate of infeasibility is infeasible.
--- `tried`: what the end of a cold solve shows is true of the model.
+-- `tried`: where a cold solve of a model ends, what its end says as a trial is true of the model.
 use Rattle.std.proofs.Common.{◌≡◌, ℕ, List, None, Some, Ok, sym, ap, ◌∙◌, subst}
 use Rattle.spec_exact.specs.Fraction.{ℚ}
 use Rattle.spec_exact.specs.Narrow.{number_limit}
@@ -33,7 +33,8 @@ shown_infeasible m cert h =
     let r = run_sound (Some number_limit) m cert known.Infeasible h.fits h.accepted in
     subst (Holds m) (sym r.1) (checks_hold m cert r.0)
 
--- a certificate of an end
+-- where a certificate is of the model, has at most 127 bits and the check accepts it, what it says of the model is a
+-- trial's end
 tried_ended : (budget : ℕ) (m : Model) (known : Known ℚ) (cert : Certificate (List ℚ)) → IsFor m cert →
     IsNarrowCertificate cert → check_run (Some number_limit) m cert ≡ Ok known → IsTried budget m (trial_by cert)
 tried_ended budget m known (Optimal x y) f n h = (run_sound (Some number_limit) m (Optimal x y) known f h).0.feasible

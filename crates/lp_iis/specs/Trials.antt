@@ -13,14 +13,14 @@ use Rattle.spec_iis.specs.Found.{EndsCold, ShowsInfeasible}
 use Rattle.lp_iis.specs.declared.trial.Trial.{Trial}
 use Rattle.lp_iis.specs.declared.trial.Trial.TheVariants.{Infeasible, Point, Stopped}
 
--- what a certificate says of its model: that a point is feasible, or that none is
+-- what a certificate shows of its model: of an optimum or a ray its point, which is feasible; else that no point is
 abbrev pub trial_by : Certificate (List ℚ) → Trial
 trial_by (Optimal x y) = Point x
 trial_by (Unbounded x r) = Point x
 trial_by (certificates.Infeasible y) = Infeasible (certificates.Infeasible y)
 trial_by (Clash j) = Infeasible (Clash j)
 
--- what the end of a solve says of its model
+-- what the end of a solve shows of its model: a feasible point, that none is feasible, or nothing, as it gave up
 abbrev pub trial_of : ExactSolveEnd → Trial
 trial_of (Ended known certificate basis pivots) = trial_by certificate
 trial_of (Past p) = Stopped (Past p)

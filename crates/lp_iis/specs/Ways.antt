@@ -25,8 +25,8 @@ use Rattle.lp_iis.specs.declared.finding.Left.TheVariants.{Kept, Stopped}
 
 -- ---- one look
 
--- what a solve with some sides alone shows is true: a few of them are infeasible together, a point meets all, or it
--- gave up
+-- what a solve of the model with these sides alone shows is true: no point meets a few of them, this point meets all,
+-- or the solve may end so and gives up
 abbrev pub IsSeen : ℕ → Model → List Side → Look → Type 0
 IsSeen budget m sides (Clash few) = IsClash m sides few
 IsSeen budget m sides (Point z) = IsFeasible (only m sides) z
@@ -34,7 +34,7 @@ IsSeen budget m sides (LookStopped end) = EndsCold (only m sides) budget end × 
 
 -- ---- the begin
 
--- what the search begins with, by the end of the model's solve
+-- what a search begins with, by the end of the model's solve: its certificate of infeasibility, or any other end
 abbrev pub begin_by : ExactSolveEnd → First
 begin_by (Ended known.Infeasible cert basis pivots) = Infeasible cert
 begin_by (Ended (known.Optimal v) cert basis pivots) = Else (Ended (known.Optimal v) cert basis pivots)
@@ -42,7 +42,8 @@ begin_by (Ended known.Unbounded cert basis pivots) = Else (Ended known.Unbounded
 begin_by (Past p) = Else (Past p)
 begin_by Spent = Else Spent
 
--- a solve of the model ends with this certificate that no point is feasible
+-- a solve of the model within the budget, without a starting basis, may end with this certificate that no point is
+-- feasible
 pub record IsBegun (budget : ℕ) (m : Model) (cert : Certificate (List ℚ)) : Type 0 where
   pub basis : Option (List Status)
   pub pivots : ℕ
@@ -50,27 +51,29 @@ pub record IsBegun (budget : ℕ) (m : Model) (cert : Certificate (List ℚ)) : 
 
 -- ---- the way
 
--- in front of the sides that are still to be looked at
+-- The search has kept these sides, with a point for each, and has the others still to try: the rule comes here from all
+-- sides, and their limits are not refused.
 pub record IsOnWay (m : Model) (all kept rest : List Side) (points : List (List ℚ)) : Type 0 where
   pub filtered : IsFiltered m kept rest points
   pub read : All (IsRead (Some number_limit) m) (kept ++ rest)
   pub onward : (s : List Side) → Reaches m kept rest s → Reaches m [] all s
 
--- a solve of a set gives up so, and the set is reached
+-- a solve of the model with only the sides of some set, of which `IsReached` holds, may end with `end`, without an
+-- answer
 pub record GivesUpAt (budget : ℕ) (m : Model) (end : ExactSolveEnd) (IsReached : List Side → Type 0) : Type 0 where
   pub sides : List Side
   pub reached : IsReached sides
   pub ends : EndsCold (only m sides) budget end
   pub gives_up : GivesUp end
 
--- the sides that are left are all looked at; or the solve of some of them gives up
+-- the search has tried all sides and kept these; or the solve of a set that the rule reaches gives up
 abbrev pub IsLeft : ℕ → Model → List Side → Left → Type 0
 IsLeft budget m all (Kept kept points) = IsOnWay m all kept [] points
 IsLeft budget m all (Stopped end) = GivesUpAt budget m end (λ s. Reaches m [] all s)
 
 -- ---- the end
 
--- these sides, with a certificate and these points
+-- what was found are the kept sides: an irreducible set, with a certificate of it, and a point without each side
 pub record IsCertified (m : Model) (kept sides : List Side) (cert : Certificate (List ℚ)) (points : List (List ℚ))
     : Type 0 where
   pub same : sides ≡ kept

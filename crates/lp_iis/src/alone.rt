@@ -13,7 +13,8 @@ use lp_model::{Model, Sense};
 use spec_iis::Side;
 use std::alloc::{AllocError, Global};
 
-/// The model with these sides alone, and the objective 0.
+/// The model with these sides alone, and the objective 0. All columns stay, and of the rows those of which a side is
+/// listed. Memory may run out.
 #[tactic(auto, unfolding(spec_iis::specs::Only::only))]
 pub fn only(alloc: Global, model: &Model, sides: &[Side]) -> Result<Model, AllocError>
     requires kept { IsUsualModel model.now }

@@ -16,7 +16,7 @@ use lp_model::Model;
 use spec_iis::Side;
 use std::alloc::{AllocError, Global};
 
-// Adds the side to the list, if it is used.
+// Adds the side to the list, if `used`. Memory may run out.
 pub(crate) fn push_if(used: bool, side: Side, to: &mut Sides) -> Result<(), AllocError>
     ensures { OnOk result (to.new ≡ to.old ++ rule.side_if used side) }
 {
@@ -26,7 +26,8 @@ pub(crate) fn push_if(used: bool, side: Side, to: &mut Sides) -> Result<(), Allo
     Ok(())
 }
 
-// Adds the lower side of the row or column `at` to the list, if it is used, and then the upper one.
+// Adds the lower side of the row or column `at` to the list, if that is used, and then the upper one, if that is.
+// Memory may run out.
 fn push_sides(
     row: bool,
     at: u32,
@@ -58,7 +59,8 @@ fn push_sides(
     )
 }
 
-// Adds the sides of all rows that the multipliers use.
+// Adds the sides of all rows that the multipliers use: the lower one where a multiplier is above 0, the upper one where
+// it is below. Memory may run out.
 fn push_rows(model: &Model, y: &Fracs, to: &mut Sides) -> Result<(), AllocError>
     requires { length y.now ≡ height model.now }
     ensures { OnOk result (to.new ≡ to.old ++ rule.gathered (λ i. rule.row_sides i (part_of y.now i)) (height model.now)) }
@@ -76,7 +78,8 @@ fn push_rows(model: &Model, y: &Fracs, to: &mut Sides) -> Result<(), AllocError>
     Ok(())
 }
 
-// Adds the side of column `j` that the multipliers use.
+// Adds the side of column `j` that the multipliers use: the lower bound where the sum of multipliers times its entries
+// is below 0, the upper bound where it is above 0, and none where it is 0. Memory may run out.
 fn push_column(model: &Model, y: &Fracs, j: u32, to: &mut Sides) -> Result<(), AllocError>
     requires inside { j < width model.now }
     requires multipliers { length y.now ≡ height model.now }
@@ -89,7 +92,8 @@ fn push_column(model: &Model, y: &Fracs, j: u32, to: &mut Sides) -> Result<(), A
     }
 }
 
-// Adds the sides of all columns that the multipliers use.
+// Adds the side of each column that the multipliers use: the lower bound where the sum of multipliers times its entries
+// is below 0, the upper bound where it is above 0. Memory may run out.
 fn push_columns(model: &Model, y: &Fracs, to: &mut Sides) -> Result<(), AllocError>
     requires multipliers { length y.now ≡ height model.now }
     requires accepted { run.check_run (Some number_limit) model.now (certificates.Infeasible y.now) ≡ Ok
@@ -103,7 +107,8 @@ fn push_columns(model: &Model, y: &Fracs, to: &mut Sides) -> Result<(), AllocErr
     Ok(())
 }
 
-/// The sides that an accepted certificate uses, those of rows first.
+/// The sides that an accepted certificate of infeasibility uses, those of rows first; of a clash both bounds of its
+/// column. Memory may run out.
 #[tactic(auto, unfolding(spec_iis::specs::Rule::used))]
 pub(crate) fn used(alloc: Global, model: &Model, cert: &Certificate) -> Result<Sides, AllocError>
     requires fits { IsFor model.now cert.now }

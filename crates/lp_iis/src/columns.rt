@@ -11,7 +11,7 @@ use lp_model::{Column, Model};
 use spec_iis::Side;
 use std::alloc::{AllocError, Global};
 
-// The number of row `i`, if it stays.
+// The number of row `i` among the rows that stay; none if it does not stay.
 fn place_at(places: &[Option<u32>], i: u32) -> Option<u32>
     requires { i < length places.now }
     ensures { result ≡ get_or places.now i None }
@@ -19,7 +19,8 @@ fn place_at(places: &[Option<u32>], i: u32) -> Option<u32>
     places[i as usize]
 }
 
-// Adds an entry at a place to the list, if there is a place.
+// Adds the entry of `v` at a place, the number of its row, to the list; nothing where there is no place. Memory may run
+// out.
 fn push_at(to: &mut Entries, place: Option<u32>, v: Frac) -> Result<(), AllocError>
     ensures { OnOk result (to.new ≡ to.old ++ entry_by place v) }
 {
@@ -29,7 +30,7 @@ fn push_at(to: &mut Entries, place: Option<u32>, v: Frac) -> Result<(), AllocErr
     Ok(())
 }
 
-// The entries of a column in the rows that stay, by the rows' numbers among these.
+// The entries of a column in the rows that stay, by the rows' numbers among these. Memory may run out.
 fn entries_left(
     alloc: Global,
     entries: &[(u32, Frac)],
@@ -49,14 +50,15 @@ fn entries_left(
     Ok(left)
 }
 
-// The bound, if it is listed.
+// The bound, if its side is listed, else none.
 fn if_listed(listed: bool, bound: Option<Frac>) -> Option<Frac>
     ensures { result ≡ only.if_listed listed bound }
 {
     if listed { bound } else { None }
 }
 
-// Column `j` with the bounds that are listed, without a cost, and its entries in the rows that stay.
+// Column `j` with the bounds that are listed, without a cost, and its entries in the rows that stay. Memory may run
+// out.
 fn column_with(
     alloc: Global,
     model: &Model,
@@ -79,7 +81,8 @@ fn column_with(
     })
 }
 
-/// All columns, each with its sides that are listed.
+/// All columns of the model, each with its bounds that are listed, the cost 0, and its entries in the rows that stay.
+/// Memory may run out.
 pub(crate) fn columns(
     alloc: Global,
     model: &Model,

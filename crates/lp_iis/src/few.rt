@@ -16,7 +16,8 @@ use lp_model::Model;
 use spec_iis::Side;
 use std::alloc::{AllocError, Global};
 
-// The number of the row or column in the model with the sides alone: that of a row by its place.
+// The number that row or column `at` has in the model with the sides alone. A row has its place among the rows that
+// stay, or its own number if it does not stay; a column keeps its number.
 fn place_of(places: &[Option<u32>], row: bool, at: u32) -> u32
     requires { row ≡ true → at < length places.now }
     ensures { result ≡ (placed places.now (record { row = row; at = at; upper = true })).at }
@@ -28,7 +29,7 @@ fn place_of(places: &[Option<u32>], row: bool, at: u32) -> u32
     }
 }
 
-// The side as one of the model in which the rows have these places.
+// The side as one of the model with the sides alone, in which the rows have these places.
 fn moved(places: &[Option<u32>], side: Side) -> Side
     requires { side.row ≡ true → side.at < length places.now }
     ensures { result ≡ placed places.now side }
@@ -40,7 +41,7 @@ fn moved(places: &[Option<u32>], side: Side) -> Side
     }
 }
 
-// Adds the side to `few`, if it is used in the model in which the rows have these places.
+// Adds the side to `few`, if it is one of the used sides, whose rows are numbered by these places. Memory may run out.
 fn push_used(
     used: &Sides,
     places: &[Option<u32>],
@@ -55,7 +56,7 @@ fn push_used(
 }
 
 // The sides of the list that are among the used ones, where `places` gives each row its number among the rows that
-// stay.
+// stay. Memory may run out.
 fn used_of(
     alloc: Global,
     used: &Sides,
@@ -75,7 +76,8 @@ fn used_of(
     Ok(few)
 }
 
-/// The sides of the list that the certificate uses, in the same order.
+/// The sides of the list that the certificate uses, in the same order. The certificate is one of infeasibility for
+/// `alone`, the model with the sides of the list alone. Memory may run out.
 pub(crate) fn used_among(
     alloc: Global,
     model: &Model,

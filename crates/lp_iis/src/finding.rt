@@ -40,7 +40,7 @@ pub(crate) enum First {
     Else(End),
 }
 
-// The sides behind side `i`.
+// The sides of the list behind place `i`.
 fn behind(sides: &Sides, i: usize) -> &[Side]
     requires { i < length sides.now }
     ensures { result.now ≡ drop_front (i + 1) sides.now }
@@ -48,7 +48,7 @@ fn behind(sides: &Sides, i: usize) -> &[Side]
     &sides.as_slice()[i + 1..]
 }
 
-// Keeps the side, and the point that meets all sides but this one.
+// Adds the side to the kept ones, and to the points the one that meets all other sides, if there is memory.
 fn keep(side: Side, point: Fracs, kept: &mut Sides, points: &mut Points) -> Result<(), AllocError>
     ensures kept { OnOk result (kept.new ≡ kept.old ++ side ∷ []) }
     ensures points { OnOk result (points.new ≡ points.old ++ point ∷ []) }
@@ -59,7 +59,7 @@ fn keep(side: Side, point: Fracs, kept: &mut Sides, points: &mut Points) -> Resu
 }
 
 // Leaves out each side, in order, without which the later and the kept sides are infeasible together, and else keeps
-// it.
+// it. Where a solve gives up, that is what it tells. Memory may run out.
 fn filter(alloc: Global, model: &Model, budget: u64, sides: &Sides) -> Result<Left, AllocError>
     requires model { IsUsualModel model.now }
     requires present { All (IsSide model.now) sides.now }
@@ -81,7 +81,8 @@ fn filter(alloc: Global, model: &Model, budget: u64, sides: &Sides) -> Result<Le
     Ok(Left::Kept(kept, points))
 }
 
-// Solves the model with these sides alone, and tells what that says of them.
+// What a solve of the model with these sides alone says: a certificate that no point meets them all, a point that does,
+// or that it gives up. Memory may run out.
 fn try_alone(alloc: Global, model: &Model, budget: u64, sides: &[Side]) -> Result<Trial, AllocError>
     requires model { IsUsualModel model.now }
     requires read { All (IsRead (Some number_limit) model.now) sides.now }
@@ -93,7 +94,8 @@ fn try_alone(alloc: Global, model: &Model, budget: u64, sides: &[Side]) -> Resul
     trial
 }
 
-// The end of the search: the kept sides with a certificate, which a last solve gives, and their points.
+// The end of the search: the kept sides with their points and a certificate, which a last solve of the model with them
+// alone gives; or that this solve gives up. Memory may run out.
 fn certified(
     alloc: Global,
     model: &Model,
@@ -117,7 +119,8 @@ fn certified(
     }
 }
 
-// Searches among the sides that the certificate of the model's infeasibility uses.
+// Searches for an irreducible infeasible subset among the sides that the certificate of the model's infeasibility uses.
+// A solve of some of them may give up. Memory may run out.
 fn reduced(
     alloc: Global,
     model: &Model,
@@ -137,7 +140,8 @@ fn reduced(
     }
 }
 
-// What the search begins with, by the end of the model's solve.
+// What the search begins with, by the end of the model's solve: its certificate that no point is feasible, or any other
+// end.
 fn begin(end: End) -> First
     ensures { result ≡ begin_by end }
 {
@@ -170,8 +174,9 @@ fn begin(end: End) -> First
     }
 }
 
-/// An irreducible infeasible subset of the model's sides, if no point is feasible. Each solve has a budget of pivots
-/// and flips. Otherwise it is what the model's solve ends with, or that the solve of some of its sides gives up.
+/// An irreducible infeasible subset of the model's sides, where the model's solve ends as infeasible; or the end of a
+/// later solve, of some sides alone, that gives up. Else the end of the model's solve. Each solve has the whole budget
+/// of pivots and flips. Memory may run out.
 pub fn find(alloc: Global, model: &Model, budget: u64) -> Result<Iis, AllocError>
     requires { IsUsualModel model.now }
     ensures { IfOk result (MayFind model.now budget) }

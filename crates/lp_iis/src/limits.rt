@@ -7,7 +7,7 @@ ghost use Rattle.spec_check.specs.Run.{lower_run, upper_run};
 use lp_frac::Frac;
 use lp_model::{Row, RowLimit, lower_of, upper_of};
 
-/// The least that the row's sum may be, if there is one.
+/// The least that the row's sum may be; none where there is no limit, or where a step to it is past 127 bits.
 pub(crate) fn lower_limit(row: &Row) -> Option<Frac>
     requires { lower_run (Some number_limit) row.now ≡ Ok (limits_of row.now).lower }
     ensures { result ≡ (limits_of row.now).lower }
@@ -18,7 +18,7 @@ pub(crate) fn lower_limit(row: &Row) -> Option<Frac>
     }
 }
 
-/// The most that the row's sum may be, if there is one.
+/// The most that the row's sum may be; none where there is no limit, or where a step to it is past 127 bits.
 pub(crate) fn upper_limit(row: &Row) -> Option<Frac>
     requires { upper_run (Some number_limit) row.now ≡ Ok (limits_of row.now).upper }
     ensures { result ≡ (limits_of row.now).upper }

@@ -30,7 +30,8 @@ pub(crate) enum Look {
     Stopped(End),
 }
 
-// Looks at the sides by a solve of `alone`, the model with them alone.
+// What a solve of `alone`, the model with the sides alone, shows of them: a few that no point meets together, a point
+// that meets them all, or that it gives up. Memory may run out.
 fn look_into(
     alloc: Global,
     model: &Model,
@@ -54,7 +55,8 @@ fn look_into(
     }
 }
 
-// Looks at the sides: makes the model with them alone, and solves it.
+// What a solve of the model with the sides alone shows of them: a few that no point meets together, a point that meets
+// them all, or that it gives up. Memory may run out.
 fn look_at(alloc: Global, model: &Model, budget: u64, sides: &Sides) -> Result<Look, AllocError>
     requires model { IsUsualModel model.now }
     requires present { All (IsSide model.now) sides.now }
@@ -67,7 +69,7 @@ fn look_at(alloc: Global, model: &Model, budget: u64, sides: &Sides) -> Result<L
     look
 }
 
-// A list of the first sides and, behind them, of `others`.
+// A list of the first sides and, behind them, of `others`. Memory may run out.
 fn joined(alloc: Global, first: &Sides, others: &[Side]) -> Result<Sides, AllocError>
     ensures { IfOk result (λ sides. sides ≡ first.now ++ others.now) }
 {
@@ -76,7 +78,8 @@ fn joined(alloc: Global, first: &Sides, others: &[Side]) -> Result<Sides, AllocE
     Ok(sides)
 }
 
-// Solves the model with the kept sides and `others` alone, and tells whether they are infeasible together.
+// What a solve of the model with the kept sides and `others` alone shows: a few that no point meets together, a point
+// that meets all, or that it gives up. Memory may run out.
 fn look_at_both(
     alloc: Global,
     model: &Model,
@@ -95,15 +98,16 @@ fn look_at_both(
     look
 }
 
-// Tells that the few sides that are known to be infeasible together still are.
+// The answer that the few sides of `clash`, which no point meets together, still are such. Memory may run out.
 fn as_before(alloc: Global, clash: &Sides) -> Result<Look, AllocError>
     ensures { IfOk result (λ look. look ≡ looks.Clash clash.now) }
 {
     Ok(Look::Clash(Sides::from_slice(alloc, clash.as_slice())?))
 }
 
-/// Tells whether the kept sides and those behind one side are infeasible together. It solves only if the side is one of
-/// the few that are known to be so. Else these few are among the rest.
+/// Tells whether a point meets the kept sides and those behind `side`. If `side` is one of the few of `clash`, which no
+/// point meets together, it solves, and the solve may give up. Else these few are among the rest, and are the answer.
+/// Memory may run out.
 pub(crate) fn look_without(
     alloc: Global,
     model: &Model,

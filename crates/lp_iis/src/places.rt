@@ -10,7 +10,8 @@ use lp_model::Model;
 use spec_iis::Side;
 use std::alloc::{AllocError, Global};
 
-/// For each row of the model its number among those that stay, if it does.
+/// For each row of the model its number among those of which a side is listed; none where the row has no listed side.
+/// Memory may run out.
 pub(crate) fn places(
     alloc: Global,
     model: &Model,

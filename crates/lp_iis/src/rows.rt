@@ -14,7 +14,7 @@ use lp_model::{Kind, Model, Row};
 use spec_iis::Side;
 use std::alloc::{AllocError, Global};
 
-// The row with this kind and right side, without a range.
+// A row of this kind and right side with the name of `row`, without a range. Memory may run out.
 fn single(alloc: Global, kind: Kind, row: &Row, rhs: Frac) -> Result<Row, AllocError>
     ensures value { IfOk result (λ r. r ≡ only.single kind row.now rhs) }
     ensures narrow { IfOk result IsNarrowRow }
@@ -27,7 +27,7 @@ fn single(alloc: Global, kind: Kind, row: &Row, rhs: Frac) -> Result<Row, AllocE
     })
 }
 
-// A copy of the row with both of its sides.
+// A copy of the row with both of its sides, as far as it has them. Memory may run out.
 fn copy(alloc: Global, row: &Row) -> Result<Row, AllocError>
     ensures value { IfOk result (λ r. r ≡ row.now) }
     ensures narrow { IfOk result IsNarrowRow }
@@ -40,7 +40,8 @@ fn copy(alloc: Global, row: &Row) -> Result<Row, AllocError>
     })
 }
 
-// The row with its lower side alone.
+// The row with its lower limit alone: as it is if it has not both limits, else as a row of type `G`. Memory may run
+// out.
 fn lower_alone(alloc: Global, row: &Row) -> Result<Row, AllocError>
     requires { IsReadable false row.now }
     ensures value { IfOk result (λ r. r ≡ only.only_row true false row.now) }
@@ -56,7 +57,8 @@ fn lower_alone(alloc: Global, row: &Row) -> Result<Row, AllocError>
     }
 }
 
-// The row with its upper side alone.
+// The row with its upper limit alone: as it is if it has not both limits, else as a row of type `L`. Memory may run
+// out.
 fn upper_alone(alloc: Global, row: &Row) -> Result<Row, AllocError>
     requires { IsReadable true row.now }
     ensures value { IfOk result (λ r. r ≡ only.only_row false true row.now) }
@@ -72,7 +74,8 @@ fn upper_alone(alloc: Global, row: &Row) -> Result<Row, AllocError>
     }
 }
 
-// The row with its lower side, its upper side, or both.
+// The row with its lower side alone, its upper side alone, or both, as the flags say; as it is where neither is asked
+// for, and where it has not both. Memory may run out.
 #[tactic(auto, unfolding(spec_iis::specs::Only::only_row))]
 fn row_with(alloc: Global, row: &Row, lower: bool, upper: bool) -> Result<Row, AllocError>
     requires lower { lower ≡ true → IsReadable false row.now }
@@ -88,7 +91,7 @@ fn row_with(alloc: Global, row: &Row, lower: bool, upper: bool) -> Result<Row, A
     }
 }
 
-// Row `i` with its sides that are listed. It keeps both sides where neither is listed.
+// Row `i` of the model with its sides that are listed. It keeps both sides where neither is listed. Memory may run out.
 fn row_at(alloc: Global, model: &Model, sides: &[Side], i: u32) -> Result<Row, AllocError>
     requires inside { i < height model.now }
     requires read { All (IsRead (Some number_limit) model.now) sides.now }
@@ -100,7 +103,7 @@ fn row_at(alloc: Global, model: &Model, sides: &[Side], i: u32) -> Result<Row, A
     row_with(alloc, model.row(i), lower, upper)
 }
 
-/// The rows that stay, each with its sides that are listed.
+/// The rows of which a side is listed, in order, each with its sides that are listed. Memory may run out.
 pub(crate) fn rows(alloc: Global, model: &Model, sides: &[Side]) -> Result<Vec<Row>, AllocError>
     requires { All (IsRead (Some number_limit) model.now) sides.now }
     ensures value { IfOk result

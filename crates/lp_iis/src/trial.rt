@@ -21,7 +21,8 @@ pub(crate) enum Trial {
     Stopped(End),
 }
 
-// What a certificate says of its model: a feasible point, or that there is none.
+// What a certificate says of a model whose objective is 0: of an optimum or a ray its point, which is feasible; else
+// that no point is.
 fn said(certificate: Certificate) -> Trial
     ensures { result ≡ trials.trial_by certificate }
 {
@@ -38,7 +39,7 @@ fn said(certificate: Certificate) -> Trial
     }
 }
 
-// What the end of a solve says of its model.
+// What the end of a solve says of its model: a feasible point, that there is none, or that the solve gave up.
 fn said_by(end: End) -> Trial
     ensures { result ≡ trials.trial_of end }
 {
@@ -57,7 +58,8 @@ fn said_by(end: End) -> Trial
     }
 }
 
-/// Solves the model cold, and tells what that says of it.
+/// Solves a model whose objective is 0 cold. Tells a feasible point, or that there is none, or that the solve gave up.
+/// Memory may run out.
 pub(crate) fn try_model(alloc: Global, model: &Model, budget: u64) -> Result<Trial, AllocError>
     requires { IsUsual model.now }
     ensures { IfOk result (IsTried budget model.now) }
