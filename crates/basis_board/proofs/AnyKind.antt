@@ -30,7 +30,8 @@ answered places session s now (Lost c) kept is t of =
     ((steps_read places s now kept is).loses session)
 answered places session s now (Done k xs) kept is t of = absurd of
 
--- whatever kind a step is that leaves its word as it was, the places answer the one read that it notes
+-- whatever kind a step is that leaves its word as it was, the places answer the one read that it notes, if that is of
+-- the count or of a claimed place
 pub any_kind : AnyKindIsAnswered
 any_kind places session i n id s v w slots act read now r at left r' l more is of =
     answered places session (viewed s) now read r.kept is

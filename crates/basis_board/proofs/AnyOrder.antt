@@ -11,16 +11,19 @@ use Rattle.spec_board.specs.Orders.{published_by, published_in, IsBacked, AreBac
 use Rattle.basis_board.specs.Board.{times}
 use Rattle.basis_board.proofs.Times.{times-append, times_contains, contains_times, once_times, times_once}
 
+-- a number stands among the places that reads publish as often as in those of each read, added up
 one_by_one : (k : ℕ) (rs : List ExactRead) →
     times k (published_in rs) ≡ sum_by (λ r. times k (published_by r)) rs
 one_by_one k rs = is_sum_by (λ qs. times k (published_in qs)) (λ r. times k (published_by r)) refl
     (λ r qs. times-append k (published_by r) (published_in qs)) rs
 
 module _ (a b : List ExactRead) (moved : IsPermutation a b) where
+  -- reads in another order publish each place as often
   as_often : (k : ℕ) → times k (published_in b) ≡ times k (published_in a)
   as_often k =
       one_by_one k b ∙ sum_by-IsPermutation (λ r. times k (published_by r)) a b moved ∙ sym (one_by_one k a)
 
+  -- a read that is backed by reads is backed by the same reads in another order
   backed_there : (claimed : ℕ) (r : ExactRead) → IsBacked a claimed r → IsBacked b claimed r
   backed_there claimed (Count c) h = h
   backed_there claimed (NotDone k) h = tt
@@ -29,6 +32,7 @@ module _ (a b : List ExactRead) (moved : IsPermutation a b) where
   backed_there claimed (Lost c) h = h
   backed_there claimed (Done k words) h = tt
 
+  -- where reads are backed, the same reads in another order are backed
   pub any_order : AreBacked a → AreBacked b
   any_order h = record {
     once = times_once (published_in b)

@@ -85,7 +85,7 @@ true_grown (m ∷ ms) (r ∷ rs) b h = (one r h.0, h.1)
     one (Lost c) t = t
     one (Done k xs) t = t
 
--- a read that has one word more
+-- where a read turns the words ws into us, so does the read with one word more
 alike_grown : (r : RawRead) (b : ℕ) (ws us : List ℕ) → Turns r ws us → Turns (grown_read r b) ws us
 alike_grown (Count c) b ws us t = t
 alike_grown (Open k) b ws us t = t
@@ -105,6 +105,8 @@ grown_notes (m ∷ ms) (r ∷ rs) b n h =
     (λ (q : Has (notes ms rs) n). (n.read, inr q, λ ws us t. t)) h
 
 module _ (places : ℕ) where
+  -- a kind of step that the rule `Kept` allows is allowed by the rule `KeptInTime`, if for each state that keeps both
+  -- it gives the pass times with which the rule of moments holds
   lift : (slots id : ℕ) (me : Me ℕ Sight) (i : ℕ) (f : ℕ → ℕ) (told : ℕ → Me ℕ View → Type 0) (tells : Sight → Type 0) →
       Allows (Kept places) slots id (seen_of me) i f told →
       ((s : State ℕ Sight) → Kept places (viewed s) → Timed s.words s.views → get_elem? s.views id ≡ some me.0 →
@@ -131,7 +133,7 @@ module _ (places : ℕ) where
         (a.4, b.2),
       )
 
-  -- kind 1
+  -- a pass that holds no place may load the count: the rule `KeptInTime` allows this step
   pub counts : (slots id : ℕ) (me : Me ℕ Sight) → me.0.view.held ≡ None → 0 < me.0.view.share →
       Allows (KeptInTime places) slots id me 0 (λ n. n) (in_time counted (step slots 0 0 0 none) me)
   counts slots id me held share =
@@ -143,7 +145,8 @@ module _ (places : ℕ) where
       (like_is s.words (set s.words 0 (get_or s.words 0 0)) same) (ap (λ (v : View). v.reads) t.0.view)
       (ap count same)))
 
-  -- kind 2
+  -- a pass that holds no place, and has just read the count c, below the number of places, may claim place c: the rule
+  -- `KeptInTime` allows the compare-exchange of the count from c to c + 1
   pub claims : (slots id : ℕ) (me : Me ℕ Sight) (c new : ℕ) (rest : List RawRead) →
       me.0.view.held ≡ None → 0 < me.0.view.share → c < places → new ≡ c + 1 → me.0.view.reads ≡ Count c ∷ rest →
       Allows (KeptInTime places) slots id me 0 (λ n. either (eqb n c) new n)
@@ -174,7 +177,8 @@ module _ (places : ℕ) where
       (ap (λ (v : View). v.reads) (t.0.lost miss).0) (ap count same))
       (cases_eq n c)))
 
-  -- kind 3
+  -- a pass that holds place k, and has written fewer than 49 words there, may store the next one: the rule `KeptInTime`
+  -- allows this step
   pub writes : (slots id : ℕ) (me : Me ℕ Sight) (i b k : ℕ) (xs : List ℕ) →
       me.0.view.held ≡ Some (k, xs) → 0 < me.0.view.share → length xs < 49 → i ≡ 50 * k + 1 + length xs →
       Allows (KeptInTime places) slots id me i (λ _. b) (λ _. in_time wrote (step slots i b 0 none) me b)
@@ -191,7 +195,8 @@ module _ (places : ℕ) where
       (same_notes me.0.moments me.0.view.reads w.reads (ap (λ (v : View). v.reads) t.0))
       (λ h. subst (λ (v : View). WereTrue me.0.moments v.reads) (sym t.0) h)))
 
-  -- kind 4
+  -- a pass that holds place k, and has written well-formed words there, may set the done word of place k to 1: the rule
+  -- `KeptInTime` allows this step
   pub finishes : (slots id : ℕ) (me : Me ℕ Sight) (i k : ℕ) (xs : List ℕ) →
       me.0.view.held ≡ Some (k, xs) → 0 < me.0.view.share → IsWellFormed xs → i ≡ 50 * k + 50 →
       Allows (KeptInTime places) slots id me i (λ _. 1) (λ _. in_time published (step slots i 1 0 none) me 1)
@@ -216,7 +221,7 @@ module _ (places : ℕ) where
       let is_finished : w ≡ finished (Some (k, xs)) me.0.view = t.0 ∙ ap (λ o. finished o me.0.view) held in
       note ws us s.views id me.0 w (Done k xs) r at turns (ap (λ (v : View). v.reads) is_finished) here))
 
-  -- kind 5
+  -- a pass may load the done word of place k: the rule `KeptInTime` allows this step
   pub sees : (slots id : ℕ) (me : Me ℕ Sight) (i k : ℕ) → 0 < me.0.view.share → i ≡ 50 * k + 50 →
       Allows (KeptInTime places) slots id me i (λ n. n) (in_time saw (step slots i 0 0 none) me)
   sees slots id me i k share is =
@@ -241,7 +246,8 @@ module _ (places : ℕ) where
       (ap (λ (v : View). v.reads) (t.0.not_done none_is)) (here ∙ none_is))
       (cases_eq n 1)))
 
-  -- kind 6
+  -- a pass that has read j words of place k, where j is below 49, may load word j of the place: the rule `KeptInTime`
+  -- allows this step
   pub reads_next : (slots id : ℕ) (me : Me ℕ Sight) (v : View) (words : List ℕ) (i k j : ℕ) →
       IsReading k j words v me.0.view → 0 < v.share → j < 49 → i ≡ 50 * k + 1 + j →
       Allows (KeptInTime places) slots id me i (λ n. n) (in_time word_read (step slots i 0 0 none) me)
@@ -259,7 +265,7 @@ module _ (places : ℕ) where
       (λ h. subst (λ (u : View). WereTrue me.0.moments u.reads) (sym t.0.view)
       (true_grown me.0.moments me.0.view.reads n h))))
 
-  -- kind 7
+  -- a pass with a share above 1 may be cut in two: the rule `KeptInTime` allows this step
   pub splits : (id : ℕ) (v : Sight) → 1 < v.view.share →
       Splits (KeptInTime places) id v (left_sight v) (right_sight v)
   splits id v share s r at =
@@ -271,7 +277,8 @@ module _ (places : ℕ) where
         timed = timed_splits s.words s.views id v r.timed at;
       }
 
-  -- kind 8, the join
+  -- two passes, of which the second holds no place, may be merged into the first: the rule `KeptInTime` allows this
+  -- step
   pub joins : (id : ℕ) (v : Sight) (other : ℕ) (w : Sight) → 0 < v.view.share → 0 < w.view.share →
       w.view.held ≡ None → Joins (KeptInTime places) id v other w (met_sight v w) spent_sight
   joins id v other w share more held s r at apart there =
@@ -288,7 +295,7 @@ module _ (places : ℕ) where
         timed = timed_joins s.words s.views id other v w r.timed at apart there;
       }
 
-  -- kind 8, the load
+  -- a pass that holds no place may load the count and learn of what it owns: the rule `KeptInTime` allows this step
   pub learns : (slots id : ℕ) (me : Me ℕ Sight) → me.0.view.held ≡ None → 0 < me.0.view.share →
       Allows (KeptInTime places) slots id me 0 (λ n. n) (learned_in_time (step slots 0 0 0 none) me)
   learns slots id me held share =
@@ -317,7 +324,7 @@ module _ (places : ℕ) where
         ),
       )))
 
-  -- the board at the start
+  -- a board whose words are all 0, with one pass that has read nothing, keeps the rule `KeptInTime`
   pub begins_in_time : (ws : List ℕ) (xs : List ℕ) → length ws ≡ 50 * places + 1 → ((i : ℕ) → get_or ws i 0 ≡ 0) →
       KeptInTime places (opening ws xs (first_sight places))
   begins_in_time ws xs wide zero_word =

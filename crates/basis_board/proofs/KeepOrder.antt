@@ -32,7 +32,8 @@ after_all : (r : RawRead) → ((q : RawRead) → AreInOrder (exact_read q) (exac
 after_all r h [] = tt
 after_all r h (q ∷ earlier) = (h q, after_all r h earlier)
 
--- all that was read as done, or published, is below the count
+-- where all places seen are below c, a read of what was seen, which gave no count above c, is in order before the count
+-- c
 before_count : (seen : List (ℕ × List ℕ)) (c : ℕ) → Each (λ p. p.0 < c) seen → (q : RawRead) → StandsIn seen q →
     IsAtMost c q → AreInOrder (exact_read q) (read.Count c)
 before_count seen c below (Count d) stands most = most
@@ -92,7 +93,7 @@ before_done j new (Claim k) = tt
 before_done j new (Lost d) = tt
 before_done j new (Done k words) = tt
 
--- places that are passed over above this one
+-- where j is below k, the read of place j as not done is in order after the reads that passed by the places from k up
 passed_above : (shape : List ℕ) (c k : ℕ) (added : List RawRead) → Passed shape c k added → (j : ℕ) → j < k →
     IsAfter (Open j) added
 passed_above shape c k [] p j l = tt
@@ -107,7 +108,7 @@ passed_above shape c k (Done i words ∷ added) p j l = absurd p.0
 
 -- ---- one read more
 
--- the newest first
+-- these reads, which stand newest first, are in order once the first one stands first, and each is whole
 record AreOrderly (reads : List RawRead) : Type 0 where
   ordered : InPairs AreInOrder (in_turn reads)
   whole : AllByRecursion IsWhole (in_turn reads)
@@ -125,16 +126,19 @@ of_view : (v : View) → AreOrderly v.reads → IsOrderly v
 of_view v h = record { ordered = h.ordered; whole = h.whole }
 
 module _ (v : View) (now : Consistent v) (orderly : IsOrderly v) where
+  -- a count that tells what the pass published is in order after the pass's reads
   after_count : (c : ℕ) → CountTells v c → IsAfter (Count c) v.reads
   after_count c tells = each_both (StandsIn v.seen) (IsAtMost c) (λ q. AreInOrder (exact_read q) (read.Count c))
       (before_count v.seen c tells.seen) v.reads now.neat.stands tells.reads
 
+  -- the reads of an orderly pass are orderly with a further count behind them that tells what the pass published
   counted : (c : ℕ) → CountTells v c → AreOrderly (Count c ∷ v.reads)
   counted c tells = one_more (Count c) v.reads (record { ordered = orderly.ordered; whole = orderly.whole })
       (after_count c tells) tt
 
   -- ---- a look
 
+  -- the reads of an orderly pass with a count, and then those that pass by places down from it, are orderly
   passed_orderly : (shape : List ℕ) (c k : ℕ) (added : List RawRead) → CountTells v c → Passed shape c k added →
       Each (OpenUnseen v.seen) added → AreOrderly (added ++ Count c ∷ v.reads)
   passed_orderly shape c k [] tells p unseen = counted c tells
@@ -155,10 +159,12 @@ module _ (v : View) (now : Consistent v) (orderly : IsOrderly v) where
   passed_orderly shape c k (Lost d ∷ added) tells p unseen = absurd p.0
   passed_orderly shape c k (Done j words ∷ added) tells p unseen = absurd p.0
 
+  -- a look that has come down to place k leaves the reads orderly
   down_orderly : (shape : List ℕ) (c k : ℕ) (w : View) (d : IsDownTo shape c k v w) → AreOrderly w.reads
   down_orderly shape c k w d = subst (λ (x : View). AreOrderly x.reads) (sym d.view)
       (passed_orderly shape c k d.added d.tells d.passed d.unseen)
 
+  -- a look leaves the reads of an orderly pass in order
   pub looks_keep : (shape : List ℕ) (w : View) (look : Look) → Looks shape v look w → IsOrderly w
   looks_keep shape w (NoneReady c) d = of_view w (down_orderly shape c 0 w d)
   looks_keep shape w (Found k words) f =
@@ -169,6 +175,7 @@ module _ (v : View) (now : Consistent v) (orderly : IsOrderly v) where
 
   -- ---- a put
 
+  -- a put of well-formed words leaves the reads of an orderly pass in order
   pub puts_keep : (words : List ℕ) (w : View) (put : Put) → IsWellFormed words → Puts v words put w → IsOrderly w
   puts_keep words w (Published k) formed p =
       let claim = one_more (Claim k) (Count k ∷ v.reads) (counted k p.tells)

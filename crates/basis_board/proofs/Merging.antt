@@ -17,19 +17,20 @@ pub record Mark : Type 0 where
   pub session : ℕ
   pub read : RawRead
 
+-- the read of a mark, as the places' definitions have it, with its session
 abbrev pub logged_of : Mark → Logged
 logged_of x = of_read x.session (exact_read x.read)
 
--- how often a number stands there
+-- how many of these marks have the number t
 abbrev pub marked : ℕ → List Mark → ℕ
 marked t xs = total (λ x. one_if (eqb x.number t)) xs
 
--- numbers from t on, each more than the one before
+-- the numbers of these marks are at least t, and each is more than the one before it
 abbrev pub Ascends : ℕ → List Mark → Type 0
 Ascends t [] = Unit {0}
 Ascends t (x ∷ xs) = (t ≤ x.number) × Ascends (x.number + 1) xs
 
--- the numbers from t on, without a gap
+-- the numbers of these marks are t, t + 1 and so on, in this order
 abbrev pub CountsUp : ℕ → List Mark → Type 0
 CountsUp t [] = Unit {0}
 CountsUp t (x ∷ xs) = (x.number ≡ t) × CountsUp (t + 1) xs
@@ -80,7 +81,7 @@ none_before t s (x ∷ xs) a l =
     let z = times_else x.number s (λ e. omega arith) in
     let r = none_before (x.number + 1) s xs a.1 (omega arith) in omega arith
 
--- the first one has the number t
+-- the list begins with a mark of number t, and the numbers behind it ascend from t + 1
 record Head (t : ℕ) (xs : List Mark) : Type 0 where
   mark : Mark
   rest : List Mark
@@ -117,12 +118,15 @@ from_next t (x ∷ xs) a m =
 -- ---- the lists of all workers
 
 module _ (workers : ℕ) where
+  -- the mark is of a session that worker i serves
   abbrev IsOwn : ℕ → Mark → Type 0
   IsOwn i x = x.session % workers ≡ i
 
+  -- the marks of the sessions that worker i serves, in their order
   abbrev pub part : ℕ → List Mark → List Mark
   part i xs = filter (λ x. nat_eq (x.session % workers) i) xs
 
+  -- one list of marks whose numbers count up from t, in which each worker's part is what that worker had
   pub record Merged (t : ℕ) (had : ℕ → List Mark) : Type 0 where
     pub all : List Mark
     pub counts : CountsUp t all
@@ -133,7 +137,8 @@ module _ (workers : ℕ) where
   less i rest had j = cond (nat_eq i j) rest (had j)
 
   module _ (t : ℕ) (had : ℕ → List Mark) (i : ℕ) (head : Head t (had i)) where
-    -- a property of the rest, and of all other lists
+    -- what holds of the rest of one worker's list, and of each other worker's list, holds of each worker's list once
+    -- the first mark is left out of that one
     left_have : (P : ℕ → List Mark → Type 0) → P i head.rest →
         ((j : ℕ) → (i ≡ j → ⊥) → j < workers → P j (had j)) → (j : ℕ) → j < workers → P j (less i head.rest had j)
     left_have P mine others j l = by (nat_eq i j) refl
@@ -142,6 +147,7 @@ module _ (workers : ℕ) where
         by true e = subst (λ (k : ℕ). P k head.rest) (eqb-true i j e) mine
         by false e = others j (eqb-false i j e) l
 
+    -- where a worker's first mark is put in front of the merged rest, each worker's part is what it had
     parts_more : (r : Merged (t + 1) (less i head.rest had)) → IsOwn i head.mark → (j : ℕ) → j < workers →
         part j (head.mark ∷ r.all) ≡ had j
     parts_more r mine j l =
@@ -154,12 +160,14 @@ module _ (workers : ℕ) where
         by true e = sym head.all ∙ ap had (eqb-true i j e)
         by false e = refl
 
-  -- the first one of each list has a number from t on, so none has any
+  -- marks whose numbers ascend from t, and are none of those from t on, are no marks
   none_left : (t : ℕ) (i : ℕ) (xs : List Mark) → Ascends t xs →
       ((s : ℕ) → t ≤ s → marked s xs ≡ 0) → [] ≡ xs
   none_left t i [] a h = refl
   none_left t i (x ∷ xs) a h = let z = h x.number a.0 in let one = times_here x.number in absurd (omega arith)
 
+  -- lists of workers, each ascending from t, that have each number from t up to t + `many` once together, and no other,
+  -- are the parts of one list that counts up
   pub merged : (many t : ℕ) (had : ℕ → List Mark) → ((i : ℕ) → i < workers → Ascends t (had i)) →
       ((i : ℕ) → i < workers → AllByRecursion (IsOwn i) (had i)) →
       ((s : ℕ) → t ≤ s → s < t + many → sum_of workers (λ i. marked s (had i)) ≡ 1) →
@@ -202,11 +210,13 @@ module _ (workers : ℕ) where
 
   -- ---- what holds of all
 
+  -- what holds of a list with x or without it holds of the list
   part_rest : (P : Mark → Type 0) (x : Mark) (xs : List Mark) (b : Bool) → AllByRecursion P (cond b (x ∷ xs) xs) →
       AllByRecursion P xs
   part_rest P x xs true h = h.1
   part_rest P x xs false h = h
 
+  -- what holds of each element of each worker's part of a list holds of each element of the list
   pub holds_of_all : (P : Mark → Type 0) (xs : List Mark) → ((n : ℕ) → n % workers < workers) →
       ((i : ℕ) → i < workers → AllByRecursion P (part i xs)) → AllByRecursion P xs
   holds_of_all P [] some h = tt

@@ -75,7 +75,7 @@ neat_opening v k n =
       );
     }
 
--- the place that was seen last has one more word
+-- where seen words have an entry of place j with at least n words, so have they once the newest entry has one word more
 longer_in : (k b : ℕ) (xs : List ℕ) (rest : List (ℕ × List ℕ)) (j : ℕ) (n : ℕ) →
     (ys : List ℕ) × Has ((k, xs) ∷ rest) (j, ys) × (n ≤ length ys) →
     (ys : List ℕ) × Has ((k, xs ++ b ∷ []) ∷ rest) (j, ys) × (n ≤ length ys)
@@ -157,6 +157,7 @@ at_here (z ∷ zs) zero x y e = refl
 at_here (z ∷ zs) (suc i) x y e = at_here zs i x y e
 
 module _ (places : ℕ) where
+  -- in a state of a board that keeps the rule `Kept`, what each pass knows is consistent
   pub consistent : (s : St) → Kept places s → (id : ℕ) (v : View) → get_elem? s.views id ≡ some v → Consistent v
   consistent s r id v at =
       let ws : List ℕ = s.words in
@@ -176,7 +177,7 @@ module _ (places : ℕ) where
             (λ (l : count ws ≤ k). (let c = p.free l in omega arith)) (cases_lt k (count ws)));
       }
 
-  -- the view after a step
+  -- where a step makes w of what pass `id` knows, and the rule `Kept` holds then, w is consistent
   pub after : (s : St) (ws : List ℕ) (id : ℕ) (v w : View) → get_elem? s.views id ≡ some v →
       Kept places record { words = ws; homes = s.homes; views = set s.views id w } → Consistent w
   after s ws id v w at r =

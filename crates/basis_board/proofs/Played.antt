@@ -75,7 +75,7 @@ contains_map f (x ∷ xs) y (zero, l, e) = (x, inl refl, e)
 contains_map f (x ∷ xs) y (suc i, l, e) =
     let r = contains_map f xs y (i, omega arith, e) in (r.0, inr r.1, r.2)
 
--- of the lists that f gives, those of all elements one after the other
+-- what is in the list that f gives for element i is in the lists that f gives for all elements, one after the other
 has_flat : {X Y : Type 0} (f : X → List Y) (xs : List X) (i : ℕ) (d : X) (y : Y) → i < length xs →
     Has (f (get_or xs i d)) y → Has (flat_map f xs) y
 has_flat f [] i d y l h = absurd (omega arith)
@@ -100,6 +100,7 @@ marks (m ∷ ms) (r ∷ rs) [] = []
 marks (m ∷ ms) (r ∷ rs) (l ∷ ls) =
     record { number = m.0; words = m.1; session = l.session; read = r } ∷ marks ms rs ls
 
+-- the note of a mark, without its session
 abbrev note_of : Mark → Note
 note_of x = record { number = x.number; words = x.words; read = x.read }
 
@@ -224,6 +225,7 @@ module _ (places : ℕ) (all : List Mark) (so : (x : Mark) → Has all x → IsT
     (grow : (x y : Mark) → Has all x → Has all y → x.number ≤ y.number → count x.words ≤ count y.words) where
   module _ (made : List Mark) (x : Mark) (here : Has all x) (inside : (y : Mark) → Has made y → Has all y)
       (before : (y : Mark) → Has made y → y.number < x.number) where
+    -- where a note made before counted c, each place below c is below the count of the note's words
     counted_before : (other c k : ℕ) → Contains (map logged_of made) (of_read other (read.Count c)) → k < c →
         k < count x.words
     counted_before other c k there l =
@@ -233,6 +235,7 @@ module _ (places : ℕ) (all : List Mark) (so : (x : Mark) → Has all x → IsT
         let early = before y.0 y.1 in
         let more = grow y.0 x (inside y.0 y.1) here (omega arith) in omega arith
 
+    -- where a read rests on the log of notes made before, it is founded on all notes
     founded_one : (r : RawRead) → Supposes places (map logged_of made) x.session (exact_read r) → IsFounded places all x r
     founded_one (Count c) s = tt
     founded_one (Open k) s = counted_before s.0 s.1 k s.2 s.3
@@ -248,6 +251,7 @@ module _ (places : ℕ) (all : List Mark) (so : (x : Mark) → Has all x → IsT
           before y.0 y.1,
         )
 
+  -- where reads rest each on those before it, each of them is founded on all notes
   founded_all : (t : ℕ) (made xs : List Mark) → Ascends t xs → ((y : Mark) → Has made y → Has all y) →
       ((y : Mark) → Has xs y → Has all y) → ((y : Mark) → Has made y → y.number < t) →
       AreFounded places (map logged_of made) (map logged_of xs) →
@@ -311,25 +315,32 @@ module _ (places : ℕ) (passes : List Known) (d : Known) (logs : ℕ → List L
     (are : (i : ℕ) (e : Known) → i < length passes → IsLogOf places (length passes) i (get_or passes i e) (logs i))
     (one : IsOneLog (flat_map notes_of passes))
     (backed : AreBacked (flat_map (λ (p : Known). reads_of p.view) passes)) where
+  -- the number of passes
   abbrev n : ℕ
   n = length passes
 
+  -- pass number i
   abbrev pass : ℕ → Known
   pass i = get_or passes i d
 
+  -- the notes of pass i with the sessions of its log, the newest first
   abbrev newest : ℕ → List Mark
   newest i = marks (pass i).moments (pass i).view.reads (reverse (logs i))
 
+  -- the notes of pass i with the sessions of its log, the first one first
   abbrev had : ℕ → List Mark
   had i = reverse (newest i)
 
+  -- the reads of all passes, one pass after the other
   abbrev reads_all : List ExactRead
   reads_all = flat_map (λ (p : Known). reads_of p.view) passes
 
   module _ (i : ℕ) (l : i < n) where
+    -- the log of worker i is that of pass i
     abbrev log_is : IsLogOf places n i (pass i) (logs i)
     log_is = are i d l
 
+    -- the reads of each pass are those of its log
     reads_are : AreReads (pass i).view.reads (reverse (logs i))
     reads_are =
         map_reverse (λ (x : Logged). x.read) (logs i)
@@ -337,31 +348,37 @@ module _ (places : ℕ) (passes : List Known) (d : Known) (logs : ℕ → List L
         ∙ sym (map_reverse exact_read (reverse (pass i).view.reads))
         ∙ ap (map exact_read) (reverse-reverse (pass i).view.reads)
 
+    -- the notes that a worker had, as logged reads, are its log
     had_logged : map logged_of (had i) ≡ logs i
     had_logged =
         map_reverse logged_of (newest i)
         ∙ ap reverse (logged_are (pass i).moments (pass i).view.reads (reverse (logs i)) log_is.were_true reads_are)
         ∙ reverse-reverse (logs i)
 
+    -- the numbers of the notes that a worker had ascend
     had_ascends : Ascends 0 (had i)
     had_ascends =
         ascends_back (newest i) (marks_fall (pass i).moments (pass i).view.reads (reverse (logs i)) log_is.later)
 
+    -- each note that a worker had is of a session of this worker
     had_own : AllByRecursion (λ (x : Mark). x.session % n ≡ i) (had i)
     had_own =
         all_unmap logged_of (IsOfWorker n i) (had i)
         (subst (AllByRecursion (IsOfWorker n i)) (sym had_logged) log_is.own)
 
+    -- a number stands in what a worker had as often as in the notes of its pass
     had_marked : (t : ℕ) → marked t (had i) ≡ numbered t (notes_of (pass i))
     had_marked t =
         marked_back t (newest i)
         ∙ marked_are t (pass i).moments (pass i).view.reads (reverse (logs i)) log_is.were_true reads_are
 
+    -- each note that worker i had is a note of some pass
     in_log : (x : Mark) → Has (had i) x → Has (flat_map notes_of passes) (note_of x)
     in_log x h =
         has_flat notes_of passes i d (note_of x) l
         (mark_noted (pass i).moments (pass i).view.reads (reverse (logs i)) x (has_reverse (newest i) x h))
 
+    -- the read of each note that worker i had is among the reads of all passes
     in_reads : (x : Mark) → Has (had i) x → Contains reads_all (exact_read x.read)
     in_reads x h =
         contains_flat (λ (p : Known). reads_of p.view) passes i d (exact_read x.read) l
@@ -375,6 +392,7 @@ module _ (places : ℕ) (passes : List Known) (d : Known) (logs : ℕ → List L
         twice [] = refl
         twice (y ∷ xs) = ap (λ rs. exact_read y.read ∷ rs) (twice xs)
 
+  -- a number stands in the notes of all passes as often as in what each worker had, added up
   sums : (t : ℕ) → numbered t (flat_map notes_of passes) ≡ sum_of n (λ i. marked t (had i))
   sums t = numbered_all t passes (λ i. marked t (had i)) (λ i e l. had_marked i l t ∙ ap (numbered t) (same i e l))
     where
@@ -386,11 +404,13 @@ module _ (places : ℕ) (passes : List Known) (d : Known) (logs : ℕ → List L
           any_default (p ∷ ps) zero a b k = refl
           any_default (p ∷ ps) (suc j) a b k = any_default ps j a b (omega arith)
 
+  -- what all workers had can be merged into one list that counts up from 0
   all_merged : Merged n 0 had
   all_merged =
       merged n one.size 0 had had_ascends had_own (λ s a b. sym (sums s) ∙ one.once s (omega arith))
       (λ s a. sym (sums s) ∙ one.no_later s (omega arith))
 
+  -- the notes of all passes with their sessions, in the order of their numbers
   abbrev all : List Mark
   all = all_merged.all
 
@@ -398,21 +418,26 @@ module _ (places : ℕ) (passes : List Known) (d : Known) (logs : ℕ → List L
   abbrev IsMade : Mark → Type 0
   IsMade x = (i : ℕ) × (i < n) × Has (had i) x
 
+  -- each note of the merged list is one that some worker had
   made_by : (x : Mark) → Has all x → IsMade x
   made_by x h =
       of_all IsMade all x
       (holds_of_all n IsMade all (λ m. omega arith)
       (λ i l. subst (AllByRecursion IsMade) (sym (all_merged.parts i l)) (all_of IsMade (had i) (λ y m. (i, l, m))))) h
 
+  -- each note that a worker had is in the merged list
   in_all : (i : ℕ) → i < n → (x : Mark) → Has (had i) x → Has all x
   in_all i l x h = has_part n i all x (subst (λ xs. Has xs x) (sym (all_merged.parts i l)) h)
 
+  -- each note of the merged list is a note of some pass
   noted : (x : Mark) → Has all x → Has (flat_map notes_of passes) (note_of x)
   noted x h = let m = made_by x h in in_log m.0 m.1 x m.2
 
+  -- the read of each note of the merged list was true of the words at its time
   was_so : (x : Mark) → Has all x → IsTrueOf x.words x.read
   was_so x h = one.so (note_of x) (noted x h)
 
+  -- the read of each note of the merged list is founded on all notes
   founded : (x : Mark) → Has all x → IsFounded places all x x.read
   founded x h =
       let m = made_by x h in
@@ -422,6 +447,7 @@ module _ (places : ℕ) (passes : List Known) (d : Known) (logs : ℕ → List L
       0 [] (had m.0) (had_ascends m.0 m.1) (λ y q. absurd q) (in_all m.0 m.1) (λ y q. absurd q)
       (subst (AreFounded places []) (sym (had_logged m.0 m.1)) (are m.0 d m.1).founded)) m.2
 
+  -- the logs of all workers have one order in which the places answer them
   have_order : HaveOneOrder places n logs
   have_order =
       let r = replayed places reads_all backed all (λ x h e. one.first (note_of x) (noted x h) e)

@@ -38,7 +38,8 @@ other_shape shape words size other = by (has_shape shape words) refl
     by true e = absurd (other (sym (take_all shape_words words (omega arith)) ∙ same_true (front words) shape e))
     by false e = refl
 
--- a place that is passed over
+-- a read that finds another shape in place k, and then reads that look down from k on, are reads that look down from k
+-- + 1 on
 sees_past : (shape : List ℕ) (k : ℕ) (r : RawRead) (rest : List ExactRead) (found : Looked) → SeesOther shape k r →
     SeesDown shape k rest found → SeesDown shape (suc k) (exact_read r ∷ rest) found
 sees_past shape k (Open j) rest found o d = (o, d)
@@ -53,7 +54,8 @@ sees_past shape k (Claim j) rest found o d = absurd o
 sees_past shape k (Lost c) rest found o d = absurd o
 sees_past shape k (Done j words) rest found o d = absurd o
 
--- places that are passed over, the newest read first
+-- the reads that passed by the places below c down to k, in their order, and then reads that look down from k on, are
+-- reads that look down from c on
 sees_passed : (shape : List ℕ) (c k : ℕ) (added : List RawRead) (rest : List ExactRead) (found : Looked) →
     Passed shape c k added → SeesDown shape k rest found →
     SeesDown shape c (map exact_read (reverse added) ++ rest) found
@@ -68,7 +70,8 @@ sees_passed shape c k (r ∷ added) rest found p d =
     ∙ append_assoc (map exact_read (reverse added)) (exact_read r ∷ []) rest in
     subst (λ rs. SeesDown shape c rs found) (sym all) more
 
--- the reads of a look that has come down to a place
+-- the reads of a look that has come down to a place are those from before, the count, and in their order those of the
+-- places passed by
 down_reads : (shape : List ℕ) (c k : ℕ) (v w : View) (d : IsDownTo shape c k v w) →
     reads_of w ≡ reads_of v ++ read.Count c ∷ map exact_read (reverse d.added)
 down_reads shape c k v w d =

@@ -19,7 +19,7 @@ use Rattle.basis_board.proofs.Totals.{each_map}
 use Rattle.basis_board.proofs.Frames.{shows_same, shows_none, unmoved}
 
 module _ (places : ℕ) where
-  -- kind 5
+  -- a pass may load the done word of place k: the rule `Kept` allows this step
   pub sees : (slots id : ℕ) (me : Me ℕ View) (i k : ℕ) → 0 < me.0.share → i ≡ 50 * k + 50 →
       Allows (Kept places) slots id me i (λ n. n) (saw (step slots i 0 0 none) me)
   sees slots id me i k share is s r _ at _ =
@@ -85,6 +85,7 @@ module _ (places : ℕ) where
       ))
       (cases_eq n 1)
 
+  -- a place that is owned and seen stays so when the newest entry has one word more
   own_grows : (k : ℕ) (xs : List ℕ) (b : ℕ) (rest : List (ℕ × List ℕ)) → length xs < 49 → (j : ℕ) →
       OwnFits ((k, xs) ∷ rest) j → OwnFits ((k, xs ++ b ∷ []) ∷ rest) j
   own_grows k xs b rest short j f = (
@@ -95,7 +96,8 @@ module _ (places : ℕ) where
     f.2,
   )
 
-  -- kind 6
+  -- a pass whose newest read is of the words xs of place k, fewer than 49, may load the next word of place k: the rule
+  -- `Kept` allows this step
   reads : (slots id : ℕ) (me : Me ℕ View) (i k : ℕ) (xs : List ℕ) (rest : List (ℕ × List ℕ)) (old : List RawRead) →
       me.0.seen ≡ (k, xs) ∷ rest → me.0.reads ≡ See k xs ∷ old →
       0 < me.0.share → length xs < 49 → i ≡ 50 * k + 1 + length xs
@@ -165,7 +167,8 @@ module _ (places : ℕ) where
                 (cases_eq j (length xs));
           }
 
-  -- the next word of a place of which j words were read
+  -- a pass that has read j words of place k, where j is below 49, may load word j of the place: the rule `Kept` allows
+  -- this step
   pub reads_next : (slots id : ℕ) (me : Me ℕ View) (v : View) (words : List ℕ) (i k j : ℕ) →
       IsReading k j words v me.0 → 0 < v.share → j < 49 → i ≡ 50 * k + 1 + j
       → Allows (Kept places) slots id me i (λ n. n) (word_read (step slots i 0 0 none) me)

@@ -61,8 +61,9 @@ done_alike (r ∷ rs) once k a b (suc i, l, e) (suc j, m, f) =
 
 -- ---- the places as they are after some of the notes
 
--- A place that is not done is one that is claimed, there is a place for each claim, and a place that is done was
--- claimed before by the same session.
+-- What the read of note x rests on: a place read as not done is below the count of its words, a claim is of one of
+-- `places` places, and a publication of place k has a claim of k by the same session before it, in `all`. Of each other
+-- read nothing is asked.
 abbrev pub IsFounded : ℕ → List Mark → Mark → RawRead → Type 0
 IsFounded places all x (Open k) = k < count x.words
 IsFounded places all x (Claim k) = k < places
@@ -71,10 +72,12 @@ IsFounded places all x (Done k words) =
 IsFounded places all x other = Unit {0}
 
 module _ (places : ℕ) (rs : List ExactRead) (backed : AreBacked rs) (all : List Mark) where
+  -- place k of these places is done, with some words
   abbrev IsDoneAt : List ExactPlace → ℕ → Type 0
   IsDoneAt now k = (words : List ℕ) × (place_at now k ≡ Some (place.Done words))
 
-  -- the places stand as these words have it, after these notes
+  -- the places `now` stand as the words ws have it, after the notes `made`: as many are claimed, and the same ones are
+  -- done, with words published in rs
   record Stands (ws : List ℕ) (now : List ExactPlace) (made : List Mark) : Type 0 where
     long : length now ≡ count ws
     is_done : (k : ℕ) → done ws k ≡ 1 →
@@ -85,13 +88,14 @@ module _ (places : ℕ) (rs : List ExactRead) (backed : AreBacked rs) (all : Lis
     claimed : (y : Mark) → Has made y → (k : ℕ) → y.read ≡ Claim k →
         (place_at now k ≡ Some (place.Claimed y.session)) ⊎ IsDoneAt now k
 
+  -- the places `now` answer the read r of note x, and then stand as the words of x have it
   record Stepped (x : Mark) (r : RawRead) (now : List ExactPlace) (made : List Mark) : Type 0 where
     next : List ExactPlace
     answers : Answers places now x.session (exact_read r) next
     stands : Stands x.words next (x ∷ made)
 
   module _ (ws : List ℕ) (now : List ExactPlace) (made : List Mark) (x : Mark) (s : Stands ws now made) where
-    -- a read that changes nothing
+    -- where note x is no claim, and leaves the words alike, the places still stand as its words have it
     stays : IsLike ws x.words → ((k : ℕ) → x.read ≡ Claim k → ⊥) → Stands x.words now (x ∷ made)
     stays like other = record {
       long = s.long ∙ sym like.counted;
@@ -102,9 +106,11 @@ module _ (places : ℕ) (rs : List ExactRead) (backed : AreBacked rs) (all : Lis
           (λ (m : Has made y). s.claimed y m k c) h;
     }
 
+    -- where the words spell the places, and are like those of a note, the count of these is the number of places
     by_count : (c : ℕ) → IsLike ws x.words → count x.words ≡ c → c ≡ length now
     by_count c like so = sym so ∙ like.counted ∙ sym s.long
 
+    -- where place k is done, a read of words of it that is among the backed ones is answered, and the places stay
     by_seen : (k : ℕ) (words : List ℕ) → IsLike ws x.words → done x.words k ≡ 1 →
         Contains rs (read.Seen k words) → Answers places now x.session (read.Seen k words) now
     by_seen k words like so there =
@@ -115,6 +121,7 @@ module _ (places : ℕ) (rs : List ExactRead) (backed : AreBacked rs) (all : Lis
         let same : d.0 ≡ b.0 = done_alike rs backed.once k d.0 b.0 d.2 b.1 in
         (b.0, d.1 ∙ ap (λ ws. Some (place.Done ws)) same, b.2, refl)
 
+    -- the claim of place k, below the number of places, takes the places and the words one note further
     by_claim : (k : ℕ) → x.read ≡ Claim k → Turns (Claim k) ws x.words → k < places → Stepped x (Claim k) now made
     by_claim k is t room =
         let new : ExactPlace = place.Claimed x.session in
@@ -151,6 +158,7 @@ module _ (places : ℕ) (rs : List ExactRead) (backed : AreBacked rs) (all : Lis
           };
         }
 
+    -- the publication of place k, which the session has claimed, takes the places and the words one note further
     by_done : (k : ℕ) (words : List ℕ) → x.read ≡ Done k words → Turns (Done k words) ws x.words →
         Contains rs (read.Done k words) → place_at now k ≡ Some (place.Claimed x.session) →
         Stepped x (Done k words) now made
@@ -194,10 +202,12 @@ module _ (places : ℕ) (rs : List ExactRead) (backed : AreBacked rs) (all : Lis
           };
         }
 
+    -- a note whose read is no claim claims no place
     not_claim : (r : RawRead) → x.read ≡ r → ((k : ℕ) → r ≡ Claim k → ⊥) → (k : ℕ) → x.read ≡ Claim k → ⊥
     not_claim r is n k c = n k (sym is ∙ c)
 
-    -- every note that has an earlier number has been made
+    -- where every note with an earlier number has been made, the places answer note x, and then stand as its words
+    -- have it
     stepped : (r : RawRead) → x.read ≡ r → Turns r ws x.words → IsTrueOf x.words r → IsFounded places all x r →
         Contains rs (exact_read r) → ((y : Mark) → Has all y → y.number < x.number → Has made y) →
         Stepped x r now made
@@ -244,11 +254,13 @@ module _ (places : ℕ) (rs : List ExactRead) (backed : AreBacked rs) (all : Lis
     abbrev IsLast : ℕ → List ℕ → Type 0
     IsLast t ws = ((t ≡ 0) × (ws ≡ [])) ⊎ ((y : Mark) × Has all y × (t ≡ y.number + 1) × (ws ≡ y.words))
 
+    -- each note turns the words of the one before into its own
     turned : (t : ℕ) (ws : List ℕ) (x : Mark) → IsLast t ws → Has all x → x.number ≡ t → Turns x.read ws x.words
     turned t ws x (inl e) here is = subst (λ us. Turns x.read us x.words) (sym e.1) (first x here (is ∙ e.0))
     turned t ws x (inr e) here is =
         subst (λ us. Turns x.read us x.words) (sym e.3) (next e.0 x e.1 here (is ∙ e.2))
 
+    -- in a list that counts up from t, each number is t or more
     later_number : (t : ℕ) (xs : List Mark) → CountsUp t xs → (y : Mark) → Has xs y → t ≤ y.number
     later_number t [] c y h = absurd h
     later_number t (x ∷ xs) c y h =
@@ -256,6 +268,7 @@ module _ (places : ℕ) (rs : List ExactRead) (backed : AreBacked rs) (all : Lis
         ⊎_elim (λ (e : x ≡ y). let n : x.number ≡ y.number = ap (λ (z : Mark). z.number) e in omega arith)
         (λ (m : Has xs y). let l = later_number (t + 1) xs c.1 y m in omega arith) h
 
+    -- where the notes up to t have been answered, the places answer the rest, in their order
     replay : (t : ℕ) (xs : List Mark) (ws : List ℕ) (now : List ExactPlace) (made : List Mark) → CountsUp t xs →
         ((y : Mark) → Has xs y → Has all y) → ((y : Mark) → Has all y → Has made y ⊎ Has xs y) → IsLast t ws →
         Stands ws now made → (last : List ExactPlace) × Plays places now (map logged_of xs) last
@@ -273,6 +286,8 @@ module _ (places : ℕ) (rs : List ExactRead) (backed : AreBacked rs) (all : Lis
         (inr (x, here, ap (λ n. n + 1) (sym number), refl)) step.stands in
         (on.0, (step.next, step.answers, on.1))
 
+    -- where notes are numbered from 0 without a gap, each turns the words of the one before into its own, and each is
+    -- founded, places answer all of them in this order
     pub replayed : CountsUp 0 all → (last : List ExactPlace) × Plays places [] (map logged_of all) last
     replayed c =
         replay 0 all [] [] [] c (λ y h. h) (λ y h. inr h) (inl (refl, refl)) (record {

@@ -14,7 +14,7 @@ use Rattle.basis_board.specs.Rule.{Agree, Consistent}
 use Rattle.basis_board.specs.Seen.{longer_if, longer, merged, words_of, IsPrefixOf}
 use Rattle.basis_board.proofs.Totals.{each_has}
 
--- the longest entry of the place, which is at least as long as any
+-- the longest entry of place k, by `words_of`, is one of the entries seen, and at least as long as the words ys
 pub record Longest (k : ℕ) (seen : List (ℕ × List ℕ)) (ys : List ℕ) : Type 0 where
   pub words : List ℕ
   pub is : words_of k seen ≡ Some words
@@ -53,7 +53,7 @@ with_head k p ps (Some ys) is same has =
       λ xs e. (let q : ys ≡ xs = cc in let l : length ys ≡ length xs = ap length q in let m = c.4 in omega arith),
     )
 
--- what words_of gives stands in the list
+-- the words that `words_of` gives for place k are an entry of place k
 words_has : (k : ℕ) (seen : List (ℕ × List ℕ)) (xs : List ℕ) → words_of k seen ≡ Some xs → Has seen (k, xs)
 words_has k [] xs e = absurd (cc)
 words_has k (p ∷ ps) xs e = ⊎_elim

@@ -140,14 +140,15 @@ has_moment (m ∷ ms) (r ∷ rs) n h =
 note_noted : (vs : List Sight) (n : Note) → HasNote vs n → IsNoted vs (n.number, n.words)
 note_noted vs n h = (h.0, h.1, h.2, has_moment h.1.moments h.1.view.reads n h.3)
 
--- a read of which the same befell the places
+-- from whatever words to whatever words q turns the board, r does too
 abbrev TurnsAlike : RawRead → RawRead → Type 0
 TurnsAlike q r = (ws us : List ℕ) → Turns q ws us → Turns r ws us
 
--- the note stood here, perhaps with such a read
+-- the old notes have a note of the same number and words, whose read turns the board as that of n does
 abbrev pub HadAlike : List Note → Note → Type 0
 HadAlike old n = (q : RawRead) × Has old (record n { read = q }) × TurnsAlike q n.read
 
+-- some pass has a note of the same number and words, whose read turns the board as that of n does
 abbrev WasNote : List Sight → Note → Type 0
 WasNote vs n = (q : RawRead) × HasNote vs (record n { read = q }) × TurnsAlike q n.read
 
@@ -248,7 +249,7 @@ was_quiet vs id v w at had n h =
     ⊎_elim (λ (a : Has (notes_in w) n). let q = had n a in (q.0, (id, v, at, q.1), q.2))
     (λ (b : HasNote vs n). (n.read, b, λ ws us t. t)) (note_set vs id w n h)
 
--- a step that notes nothing
+-- where a step of a pass notes nothing, and the words before and after it are alike, the rule of moments is kept
 timed_quiet : (ws us : List ℕ) (vs : List Sight) (id : ℕ) (v w : Sight) → Timed ws vs → get_elem? vs id ≡ some v →
     Grows ws us → Grows us ws → w.moments ≡ v.moments → ((n : Note) → Has (notes_in w) n → HadAlike (notes_in v) n) →
     WereTrue w.moments w.view.reads → Timed us (set vs id w)
@@ -259,7 +260,7 @@ timed_quiet ws us vs id v w r at more less same had true_then =
     (noted_quiet vs id v w at same) (was_quiet vs id v w at had)
     (sights_stay (λ u. WereTrue u.moments u.view.reads) vs id w true_then r.were_true)
 
--- a step that notes one read
+-- where a step of a pass notes one read, with the next number and the words after it, the rule of moments is kept
 timed_note : (ws us : List ℕ) (vs : List Sight) (id : ℕ) (v w : Sight) (read : RawRead) (r : Timed ws vs) →
     get_elem? vs id ≡ some v → Turns read ws us → w.moments ≡ (r.now, us) ∷ v.moments →
     w.view.reads ≡ read ∷ v.view.reads → WereTrue w.moments w.view.reads → Timed us (set vs id w)

@@ -91,13 +91,14 @@ published_with (r ∷ rs) k h = ⊎_elim
 
 -- ---- what was written, beside what was seen
 
--- the words that were written of a place agree with all that was seen of it, which was as much once
+-- if the read is a publication, its words agree with all words that were seen of its place, at least as many of which
+-- were seen in one entry; of other reads nothing is asked
 abbrev IsKept : List (ℕ × List ℕ) → ExactRead → Type 0
 IsKept seen (read.Done k payload) =
     (words : List ℕ) × Has seen (k, words) × (length payload ≤ length words) × Each (Agree (k, payload)) seen
 IsKept seen other = Unit {0}
 
--- a read that was seen and agrees with all that was seen keeps what it published
+-- a read whose words were seen, and agree with all that was seen of its place, has what `IsKept` asks
 done_kept : (seen : List (ℕ × List ℕ)) (r : RawRead) → StandsIn seen r → ReadAgrees seen r → IsKept seen (exact_read r)
 done_kept seen (Count c) s a = tt
 done_kept seen (Open k) s a = tt
@@ -124,30 +125,37 @@ shown_of payload words long agree (inr size) =
 
 module _ (v : View) (n : ℕ) (now : Consistent v) (owns : OwnsBelow v n) (tells : CountTells v n)
     (whole : AllByRecursion IsWhole (reads_of v)) where
+  -- the places that a consistent pass published are those in its reads, in order
   published_own : v.own ≡ published_in (reads_of v)
   published_own = now.neat.published ∙ sym (published_is v.reads)
 
+  -- a whole pass published each place as often as it owns it
   as_often : (k : ℕ) → times k (published_in (reads_of v)) ≡ times k v.own
   as_often k = ap (times k) (sym published_own)
 
+  -- each place below n is published in the reads of a whole pass
   published_below : (k : ℕ) → k < n → Contains (published_in (reads_of v)) k
   published_below k l = times_contains k (published_in (reads_of v))
       (let same = as_often k in let one = (owns k).0 l in omega arith)
 
+  -- each place that a whole pass published is below n
   below_published : (k : ℕ) → Contains (published_in (reads_of v)) k → k < n
   below_published k c = ⊎_elim (λ (l : k < n). l)
       (λ (l : n ≤ k). absurd (let some_time = contains_times k (published_in (reads_of v)) c in
       let same = as_often k in let none = (owns k).1 l in omega arith))
       (cases_lt k n)
 
+  -- each publication of a consistent pass has words that agree with what the pass has seen, and were all seen
   kept : AllByRecursion (IsKept v.seen) (reads_of v)
   kept = each_all (IsKept v.seen) v.reads
       (each_both (StandsIn v.seen) (ReadAgrees v.seen) (λ r. IsKept v.seen (exact_read r)) (done_kept v.seen) v.reads
       now.neat.stands now.reads_agree)
 
+  -- what holds of each read of the pass holds of a read that is among them
   of_all : (P : ExactRead → Type 0) (r : ExactRead) → AllByRecursion P (reads_of v) → Contains (reads_of v) r → P r
   of_all P r h there = All-contains P (reads_of v) r (All-from_recursion P (reads_of v) h) there
 
+  -- words that a whole pass has read of a place are backed by its reads
   seen_backed : (k : ℕ) (words : List ℕ) → StandsIn v.seen (See k words) → ReadAgrees v.seen (See k words) →
       IsWhole (read.Seen k words) → IsBacked (reads_of v) n (read.Seen k words)
   seen_backed k words stands agrees size =
@@ -165,6 +173,7 @@ module _ (v : View) (n : ℕ) (now : Consistent v) (owns : OwnsBelow v n) (tells
             (λ i l m. (let h : i < length all.0 = omega arith in first refl i l h ∙ sym (other refl i m h))) size,
       )
 
+  -- each read of a whole pass that gives what it has seen, and no count above n, is backed by its reads
   one_backed : (r : RawRead) → StandsIn v.seen r × ReadAgrees v.seen r → IsAtMost n r × IsWhole (exact_read r) →
       IsBacked (reads_of v) n (exact_read r)
   one_backed (Count c) s a = a.0
@@ -174,6 +183,7 @@ module _ (v : View) (n : ℕ) (now : Consistent v) (owns : OwnsBelow v n) (tells
   one_backed (Lost c) s a = a.0
   one_backed (Done k words) s a = tt
 
+  -- where a consistent pass owns just the places below n, and each of its reads is whole, its reads are backed
   pub whole_backed : AreBacked (reads_of v)
   whole_backed = record {
     once = times_once (published_in (reads_of v))

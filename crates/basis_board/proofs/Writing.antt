@@ -18,7 +18,7 @@ use Rattle.basis_board.proofs.Totals.{each_map, each_push, times_here, times_els
 use Rattle.basis_board.proofs.Frames.{St, shows_set, done_set, reads_move}
 use Rattle.basis_board.proofs.Frames.{same_total, seats_stay, held_stays, fits_move}
 
--- one more word of the payload
+-- a place that shows the words xs, fewer than 49, shows xs and then b once b is stored in its next payload word
 shows_push : (ws : List ℕ) (k i b : ℕ) (xs : List ℕ) → length xs < 49 → i ≡ 50 * k + 1 + length xs → i < length ws →
     Shows ws k xs → Shows (set ws i b) k (xs ++ b ∷ [])
 shows_push ws k i b xs room is inside h =
@@ -42,6 +42,8 @@ module _ (places : ℕ) where
     pub undone : done s.words k ≡ 0
     pub alone : (j : ℕ) (u : View) → j ≢ id → get_elem? s.views j ≡ some u → holding k u ≡ 0
 
+  -- where pass `id` holds place k in a state that keeps the rule `Kept`, the place is claimed and not done, and no
+  -- other pass holds it
   pub holds : (s : St) → Kept places s → (id : ℕ) (v : View) (k : ℕ) (xs : List ℕ) → get_elem? s.views id ≡ some v →
       v.held ≡ Some (k, xs) → Holds s id k
   holds s r id v k xs at held =
@@ -57,6 +59,7 @@ module _ (places : ℕ) where
       (λ (l : count s.words ≤ k). let c = p.free l in absurd (omega arith))
       (cases_lt k (count s.words))
 
+  -- what is held in another place than k still fits where all places but k show what they showed
   held_apart : (ws us : List ℕ) (k : ℕ) → ((j : ℕ) (xs : List ℕ) → j ≢ k → Shows ws j xs → Shows us j xs) →
       (o : Option (ℕ × List ℕ)) → holding_in k o ≡ 0 → HeldFits ws o → HeldFits us o
   held_apart ws us k shown None z h = tt
@@ -64,7 +67,8 @@ module _ (places : ℕ) where
       shown p.0 p.1
       (λ e. (let q : one_if (eqb p.0 k) ≡ 1 = ap (λ x. one_if (eqb x k)) e ∙ times_here k in omega arith)) h
 
-  -- kind 3
+  -- a pass that holds place k, and has written fewer than 49 words there, may store the next one: the rule `Kept`
+  -- allows this step
   pub writes : (slots id : ℕ) (me : Me ℕ View) (i b k : ℕ) (xs : List ℕ) →
       me.0.held ≡ Some (k, xs) → 0 < me.0.share → length xs < 49 → i ≡ 50 * k + 1 + length xs
       → Allows (Kept places) slots id me i (λ _. b) (λ _. wrote (step slots i b 0 none) me b)
@@ -124,7 +128,8 @@ module _ (places : ℕ) where
         (refl, refl),
       )
 
-  -- kind 4
+  -- a pass that holds place k, and has written well-formed words there, may set the done word of place k to 1: the rule
+  -- `Kept` allows this step
   pub finishes : (slots id : ℕ) (me : Me ℕ View) (i k : ℕ) (xs : List ℕ) →
       me.0.held ≡ Some (k, xs) → 0 < me.0.share → IsWellFormed xs → i ≡ 50 * k + 50
       → Allows (Kept places) slots id me i (λ _. 1) (λ _. published (step slots i 1 0 none) me 1)

@@ -5,12 +5,12 @@ use Rattle.basis_board.specs.declared.seats.View.{View}
 use Rattle.basis_board.specs.declared.seats.RawRead.{RawRead}
 use Rattle.basis_board.specs.declared.seats.RawRead.TheVariants.{Count, See, Claim, Lost, Done}
 
--- each element has the property P, by recursion
+-- each element of the list has the property P
 abbrev pub Each : {X : Type 0} → (X → Type 0) → List X → Type 0
 Each P [] = Unit {0}
 Each P (x ∷ xs) = P x × Each P xs
 
--- x is an element, by recursion
+-- y is an element of the list
 abbrev pub Has : {X : Type 0} → List X → X → Type 0
 Has [] y = ⊥
 Has (x ∷ xs) y = (x ≡ y) ⊎ Has xs y
@@ -29,21 +29,21 @@ one_if false = 0
 abbrev pub times : ℕ → List ℕ → ℕ
 times k xs = total (λ x. one_if (x == k)) xs
 
--- word 0 is the number of claimed places. Place k has its payload in words 50 k + 1 to 50 k + 49,
--- and its done word is word 50 k + 50
+-- how many places are claimed, which word 0 says. Place k has its payload in words 50 k + 1 to 50 k + 49, and its done
+-- word is word 50 k + 50
 abbrev pub count : List ℕ → ℕ
 count ws = slice_index ws 0
 
--- 1 where place k is done, and else 0
+-- the done word of place k: 1 where the place is done, and else 0
 abbrev pub done : List ℕ → ℕ → ℕ
 done ws k = slice_index ws (50 * k + 50)
 
--- xs is a prefix of the payload of place k
+-- the payload of place k begins with the words xs, of which there are at most 49
 pub record Shows (ws : List ℕ) (k : ℕ) (xs : List ℕ) : Type 0 where
   pub short : length xs ≤ 49
   pub same : (i : ℕ) → i < length xs → slice_index ws (50 * k + 1 + i) ≡ slice_index xs i
 
--- 1 where this is place k with its words
+-- 1 where this is place k with its words; 0 where it is another place, or none
 abbrev pub holding_in : ℕ → Option (ℕ × List ℕ) → ℕ
 holding_in k None = 0
 holding_in k (Some p) = one_if (p.0 == k)
@@ -85,7 +85,8 @@ grown_held (Some p) b = Some (p.0, p.1 ++ b ∷ [])
 abbrev pub writing : View → ℕ → View
 writing v b = record v { held = grown_held v.held b }
 
--- what a pass knows after it published the place that it had claimed, with the words that it stored there
+-- what a pass knows after it published the place that it had claimed, with the words that it stored there; the same as
+-- before where it had claimed none
 abbrev pub finished : Option (ℕ × List ℕ) → View → View
 finished None v = v
 finished (Some p) v =
@@ -95,7 +96,7 @@ finished (Some p) v =
 abbrev pub opening_place : View → ℕ → View
 opening_place v k = record v { seen = (k, []) ∷ v.seen; reads = See k [] ∷ v.reads }
 
--- the place that was seen last, with one word more
+-- the seen words of places, in which the newest entry has one word more; an empty list stays empty
 abbrev pub grown_seen : List (ℕ × List ℕ) → ℕ → List (ℕ × List ℕ)
 grown_seen [] b = []
 grown_seen (p ∷ ps) b = (p.0, p.1 ++ b ∷ []) ∷ ps
@@ -105,22 +106,22 @@ abbrev pub grown_read : RawRead → ℕ → RawRead
 grown_read (See k xs) b = See k (xs ++ b ∷ [])
 grown_read r b = r
 
--- the reads whose newest one has one word more
+-- the reads, of which the newest one has one word more if it is a read of words of a place; no reads stay none
 abbrev pub grown_reads : List RawRead → ℕ → List RawRead
 grown_reads [] b = []
 grown_reads (r ∷ rs) b = grown_read r b ∷ rs
 
--- one more word of the place that was seen last
+-- what a pass knows after it read one more word of the place that it saw last
 abbrev pub reading : View → ℕ → View
 reading v b = record v { seen = grown_seen v.seen b; reads = grown_reads v.reads b }
 
--- where the read is one of the count, it gave at most n
+-- if the read gave a count, this is at most n; of other reads nothing is asked
 abbrev pub IsAtMost : ℕ → RawRead → Type 0
 IsAtMost n (Count c) = c ≤ n
 IsAtMost n (Lost c) = c ≤ n
 IsAtMost n r = Unit {0}
 
--- the words of the place that was seen last
+-- the words of the place that was seen last; none where no place was seen
 abbrev pub head_words : List (ℕ × List ℕ) → List ℕ
 head_words [] = []
 head_words (p ∷ ps) = p.1
@@ -130,12 +131,12 @@ abbrev pub cut_left : View → View
 cut_left v = record v { share = v.share - 1 }
 
 -- what a pass knows that was split off another: it has one part of the right to the board, and has seen what the other
--- had
+-- had, but has itself read and published nothing
 abbrev pub cut_right : View → View
 cut_right v = record { places = v.places; share = 1; held = None; seen = v.seen; own = []; reads = [] }
 
--- what a pass knows after another was merged into it: it has the parts of both and knows what either does; the other's
--- reads are newer
+-- what a pass knows after another, which holds no place, was merged into it: it has the parts of both and knows what
+-- either does; the other's reads are newer
 abbrev pub met : View → View → View
 met v w =
     record {
@@ -151,7 +152,7 @@ met v w =
 abbrev pub seeing : View → ℕ → List ℕ → View
 seeing v k xs = record v { seen = (k, xs) ∷ v.seen; reads = See k xs ∷ v.reads }
 
--- what a pass knows after it stored these words in the place k that it claimed
+-- what a pass knows after it stored these words, and no others, in the place k that it claimed
 abbrev pub storing : View → ℕ → List ℕ → View
 storing v k xs = record v { held = Some (k, xs) }
 

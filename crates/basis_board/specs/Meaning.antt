@@ -8,7 +8,7 @@ use Rattle.spec_board.specs.Words.{IsWellFormed}
 use Rattle.basis_board.specs.Board.{Has, times, count, done, Shows, holding}
 use Rattle.basis_board.specs.Rule.{Kept}
 
--- f is 1 of what one pass knows, and 0 of what any other pass knows
+-- f is 1 of what one pass of the board knows, and 0 of what each other pass knows
 pub record JustOne (f : View → ℕ) (views : List View) : Type 0 where
   pub seat : ℕ
   pub view : View

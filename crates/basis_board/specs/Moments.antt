@@ -11,7 +11,7 @@ use Rattle.basis_board.specs.declared.seats.RawRead.TheVariants.{Count, Open, Se
 use Rattle.basis_board.specs.Board.{Each, Has, total, one_if, count, done, first_view, cut_left, cut_right, met, spent}
 use Rattle.basis_board.specs.Rule.{Kept, learned}
 
--- which note of all passes it was, counted from 0, and the words after the step that noted it
+-- when a read was noted: its number among the notes of all passes, from 0 on, and the board's words after that step
 abbrev pub Moment : Type 0
 Moment = ℕ × List ℕ
 
@@ -21,7 +21,7 @@ pub record Note : Type 0 where
   pub words : List ℕ
   pub read : RawRead
 
--- one for each read, the newest first
+-- the notes of these reads at these times, read by read, as long as there are both
 abbrev pub notes : List Moment → List RawRead → List Note
 notes [] rs = []
 notes (m ∷ ms) [] = []
@@ -37,7 +37,8 @@ sight v ms = record { view = v; moments = ms }
 
 -- ---- what words say of a read
 
--- what a read says is true of the board's words ws
+-- What a read says is true of the board's words ws: as many places are claimed as it counts, or k + 1 after a claim of
+-- place k; and the place that it names is done or not. Of payload words nothing is asked.
 abbrev pub IsTrueOf : List ℕ → RawRead → Type 0
 IsTrueOf ws (Count c) = count ws ≡ c
 IsTrueOf ws (Open k) = done ws k ≡ 0
@@ -53,23 +54,25 @@ WereTrue [] (r ∷ rs) = ⊥
 WereTrue (m ∷ ms) [] = ⊥
 WereTrue (m ∷ ms) (r ∷ rs) = IsTrueOf m.1 r × WereTrue ms rs
 
--- no count is less, and no place is done no more
+-- the words us may be later than ws: the count is not less, and each place that was done still is
 pub record Grows (ws us : List ℕ) : Type 0 where
   pub counted : count ws ≤ count us
   pub dones : (k : ℕ) → done ws k ≤ done us k
 
--- as many places are claimed, and the same ones are done
+-- in ws and in us as many places are claimed, and the same ones are done; of payloads nothing is asked
 pub record IsLike (ws us : List ℕ) : Type 0 where
   pub counted : count us ≡ count ws
   pub dones : (k : ℕ) → done us k ≡ done ws k
 
--- place k is claimed, one place more than before, and the same places are done; of payloads nothing is asked
+-- from ws to us place k is claimed, one place more than before, and the same places are done; of payloads nothing is
+-- asked
 pub record ClaimsPlace (k : ℕ) (ws us : List ℕ) : Type 0 where
   pub before : count ws ≡ k
   pub after : count us ≡ k + 1
   pub dones : (j : ℕ) → done us j ≡ done ws j
 
--- place k becomes done, each other place is done or not as before, and as many are claimed; of payloads nothing is asked
+-- from ws to us place k becomes done, each other place is done or not as before, and as many are claimed; of payloads
+-- nothing is asked
 pub record FinishesPlace (k : ℕ) (ws us : List ℕ) : Type 0 where
   pub counted : count us ≡ count ws
   pub before : done ws k ≡ 0
@@ -93,7 +96,7 @@ stamped_in t ms = total (λ m. one_if (m.0 == t)) ms
 abbrev pub stamped : ℕ → Sight → ℕ
 stamped t v = stamped_in t v.moments
 
--- some pass noted something then
+-- some pass has noted a read at this moment
 abbrev pub IsNoted : List Sight → Moment → Type 0
 IsNoted sights m = (j : ℕ) × (v : Sight) × (get_elem? sights j ≡ some v) × Has v.moments m
 
@@ -128,7 +131,8 @@ pub record KeptInTime (places : ℕ) (s : State ℕ Sight) : Type 0 where
 
 -- ---- what a step, and a call, does to the moments of a pass
 
--- each of these times is later than all times behind it in the list, as the newest is first
+-- each time of the first list is later than all times behind it there and than all of the second list, which is of old
+-- ones
 abbrev pub ComeAfter : List Moment → List Moment → Type 0
 ComeAfter [] old = Unit {0}
 ComeAfter (m ∷ ms) old = Each (λ n. n.0 < m.0) (ms ++ old) × ComeAfter ms old
@@ -149,13 +153,14 @@ pub record Later (v w : Sight) : Type 0 where
 abbrev pub seen_of : Me ℕ Sight → Me ℕ View
 seen_of m = (m.0.view, m.1)
 
--- a kind of step as `told` has it, in which the pass besides only notes further reads, which were true then
+-- a kind of step of which `told` says what the pass knows before and after it, without times; besides, the pass only
+-- notes further reads, and each of its reads was true when it was noted
 abbrev pub in_time : (Step ℕ → Me ℕ View → ℕ → Me ℕ View → Type 0) → Step ℕ → Me ℕ Sight → ℕ → Me ℕ Sight → Type 0
 in_time told st m n m' = told st (seen_of m) n (seen_of m') × Later m.0 m'.0
 
 -- ---- the notes of all passes, when one has them all
 
--- how many of these notes have number t
+-- how many of these notes have number t: one or none where they are one log
 abbrev pub numbered : ℕ → List Note → ℕ
 numbered t all = total (λ n. one_if (n.number == t)) all
 
@@ -171,7 +176,8 @@ pub record IsOneLog (all : List Note) : Type 0 where
   pub next : (m n : Note) → Has all m → Has all n → n.number ≡ m.number + 1 → Turns n.read m.words n.words
   pub so : (n : Note) → Has all n → IsTrueOf n.words n.read
 
--- the load after a meeting, which notes nothing
+-- the load after a meeting, which notes nothing; where the pass then has the whole right to the board,
+-- its notes are one log
 abbrev pub learned_in_time : Step ℕ → Me ℕ Sight → ℕ → Me ℕ Sight → Type 0
 learned_in_time st m n m' =
     learned st (seen_of m) n (seen_of m') × (Later m.0 m'.0 × (m'.0.view.share ≡ 64 → IsOneLog (notes_in m'.0)))
@@ -222,8 +228,8 @@ OnlyWhatIsSo =
     KeptInTime places (stepped s i n id slots w act) → Later v w → w.view.reads ≡ read ∷ v.view.reads →
     IsTrueOf s.words read
 
--- So a kind of load that notes one read more, by the value that it finds, is allowed only where that read is so in
--- every state in which it may be taken. f is what a step makes of its word: a load and a compare-exchange that fails
+-- A kind of load that notes one read more, by the value that it finds, is allowed only where that read is so in every
+-- state in which the load may be taken. f is what the step makes of its word: a load and a compare-exchange that fails
 -- leave it as it was.
 abbrev pub AllowedNotesAreSo : Type 0
 AllowedNotesAreSo =

@@ -13,7 +13,7 @@ use Rattle.basis_board.specs.Moments.{KeptInTime, Later}
 use Rattle.basis_board.specs.PassReads.{exact_read}
 use Rattle.basis_board.specs.Spelled.{AreSpelled, IsAnswered}
 
--- a read of a claimed place, or of the count, that changes no place
+-- the read is of the count or of a claimed place, and changes no place; words that it saw are those of that place
 abbrev pub IsOfClaimed : List ℕ → RawRead → Type 0
 IsOfClaimed ws (Count c) = Unit {0}
 IsOfClaimed ws (Open k) = k < count ws
@@ -22,8 +22,8 @@ IsOfClaimed ws (Claim k) = ⊥
 IsOfClaimed ws (Lost c) = Unit {0}
 IsOfClaimed ws (Done k xs) = ⊥
 
--- Where a step leaves its word as it was, keeps the board's rule and notes one read more, the places that the words
--- spell answer that read, whatever kind of step it is.
+-- Where a step leaves its word as it was, keeps the board's rule and notes one read more, of the count or of a claimed
+-- place (`IsOfClaimed`), the places that the words spell answer that read, whatever kind of step it is.
 abbrev pub AnyKindIsAnswered : Type 0
 AnyKindIsAnswered =
     (places session i n id : ℕ) (s : State ℕ Sight) (v w : Sight) (slots : List (ℕ × ℕ)) (act : Act ℕ) (read : RawRead)

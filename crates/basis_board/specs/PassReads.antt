@@ -9,7 +9,7 @@ use Rattle.basis_board.specs.declared.seats.RawRead.TheVariants.{Count, Open, Se
 use Rattle.basis_board.specs.declared.board.Look.{Look}
 use Rattle.basis_board.specs.declared.board.Look.TheVariants.{Found, NoneReady}
 
--- a read of a pass, as a read of places that sessions share
+-- a read as a pass of the board notes it, as the definitions of spec_board have it
 abbrev pub exact_read : RawRead → ExactRead
 exact_read (Count c) = read.Count c
 exact_read (Open k) = read.NotDone k
@@ -18,22 +18,22 @@ exact_read (Claim k) = read.Claim k
 exact_read (Lost c) = read.Lost c
 exact_read (Done k words) = read.Done k words
 
--- in order, the first one first
+-- the reads of a pass as the definitions of spec_board have them, the first one first
 abbrev pub reads_of : View → List ExactRead
 reads_of v = map exact_read (reverse v.reads)
 
--- what a look found, as sessions are told it
+-- what a look of the board came to, as sessions are told it: a place with its words, or none
 abbrev pub looked_by : Look → Looked
 looked_by (Found k words) = Some (record { place = k; words = words })
 looked_by (NoneReady c) = None
 
--- the pass reads one look more
+-- the reads of a pass grow by those of one look for this shape, which came to this
 pub record AddsLook (shape : Words) (look : Look) (before after : View) : Type 0 where
   pub made : List ExactRead
   pub reads : LookReads shape made (looked_by look)
   pub all : reads_of after ≡ reads_of before ++ made
 
--- the reads of a pass grow by those of one publication
+-- the reads of a pass grow by those of one publication of these words, which came to this
 pub record AddsPut (words : Words) (put : Put) (before after : View) : Type 0 where
   pub made : List ExactRead
   pub reads : PutReads before.places words put made

@@ -11,12 +11,12 @@ use Rattle.basis_board.specs.PassReads.{reads_of}
 
 -- ---- the reads of one who serves sessions, each with its session
 
--- a read with the session that made it
+-- a read with the number of the session that made it
 abbrev pub of_read : ℕ → ExactRead → Logged
 of_read session read = record { session = session; read = read }
 
--- What a read of a session supposes: a place that is read as not done is below a count that was read before, there is a
--- place for each claim, and a place that is done was claimed before, by the same session.
+-- What the reads before a session's read must have: for a place read as not done a count above it, for a publication
+-- the same session's claim; a claim is of one of `places` places. Other reads suppose nothing.
 abbrev pub Supposes : ℕ → List Logged → ℕ → ExactRead → Type 0
 Supposes places made session (NotDone k) =
     (other : ℕ) × (c : ℕ) × Contains made (of_read other (Count c)) × (k < c)
@@ -24,7 +24,7 @@ Supposes places made session (Claim k) = k < places
 Supposes places made session (Done k words) = Contains made (of_read session (Claim k))
 Supposes places made session other = Unit {0}
 
--- each of these reads, after those, of which the newest stands first
+-- each of these reads has what it supposes among the reads before it; those in `made` were before all, the newest first
 abbrev pub AreFounded : ℕ → List Logged → List Logged → Type 0
 AreFounded places made [] = Unit {0}
 AreFounded places made (x ∷ log) = Supposes places made x.session x.read × AreFounded places (x ∷ made) log
@@ -33,7 +33,8 @@ AreFounded places made (x ∷ log) = Supposes places made x.session x.read × Ar
 abbrev pub IsOfWorker : ℕ → ℕ → Logged → Type 0
 IsOfWorker workers worker x = x.session % workers ≡ worker
 
--- the log is the reads of a pass, in order, by which a worker served its own sessions
+-- the log is the reads of a pass, in order, by which a worker served its own sessions; each has what it supposes before
+-- it, and was true when the pass noted it
 pub record IsLogOf (places workers worker : ℕ) (pass : Known) (log : List Logged) : Type 0 where
   pub reads : map (λ (x : Logged). x.read) log ≡ reads_of pass.view
   pub own : AllByRecursion (IsOfWorker workers worker) log

@@ -11,13 +11,13 @@ use Rattle.basis_board.specs.declared.seats.View.{View}
 use Rattle.basis_board.specs.Board.{count, done}
 use Rattle.basis_board.specs.Places.{Place, Taken, Shown, payload, board_of}
 
--- a claimed place without its session
+-- a claimed place of spec_board, as the board's words spell it: without the session that claimed it
 abbrev pub spelled : ExactPlace → Place
 spelled (place.Claimed session) = Taken
 spelled (place.Done words) = Shown words
 
--- What a read changes of the places that the words spell: a claim has one more taken, a place that is done is shown,
--- and nothing else changes any.
+-- A read takes the places `now` to `next`, as the words spell them: a claim adds a taken place, a publication shows its
+-- place, and any other read changes none.
 abbrev pub Changes : List ExactPlace → ExactRead → List ExactPlace → Type 0
 Changes now (read.Claim k) next = map spelled next ≡ map spelled now ++ Taken ∷ []
 Changes now (read.Done k words) next = map spelled next ≡ slice_set (map spelled now) k (Shown words)
@@ -29,14 +29,14 @@ Changes now other next = map spelled next ≡ map spelled now
 abbrev pub AreSpelled : List ℕ → List ExactPlace → Type 0
 AreSpelled words now = map spelled now ≡ board_of words
 
--- a session may make the read, and then the words spell the places
+-- the places `now` answer this read of a session, and the board's words then spell the places that it leaves
 abbrev pub IsAnswered : ℕ → List ExactPlace → ℕ → ExactRead → List ℕ → Type 0
 IsAnswered places now session made words =
     (next : List ExactPlace) × Answers places now session made next × AreSpelled words next
 
--- The event of each kind of step, in a state of the board whose words spell these places: a load of the count, of a
--- done word and of words of a place that is done, a compare-exchange of the count, a store of a word and of a done
--- word. The place of a store is one that a seat holds; it is the session's whose seat it is.
+-- In this state, whose words spell `now`, a load of the count, of a done word or of a done place's words, a
+-- compare-exchange of the count, and a store of a done word by the session that claimed the place are reads that the
+-- places answer. A store of a payload word is no read. After each, the words spell the places that it leaves.
 pub record StepsAreReads (places : ℕ) (s : State ℕ View) (now : List ExactPlace) : Type 0 where
   pub counts : (session : ℕ) → IsAnswered places now session (read.Count (count s.words)) s.words
   pub opens : (session k : ℕ) → k < count s.words → done s.words k ≡ 0 →

@@ -35,7 +35,8 @@ impl Board {
     ghost use Rattle.basis_board.specs.Known.{notes_of};
     ghost use Rattle.basis_board.specs.Moments.{Later, NotesMore, WereTrue, IsOneLog};
 
-    /// An empty board, and a pass that is the only one of it.
+    /// A board with so many places, none of which is claimed, and a pass that is the only one of it; an error where
+    /// memory is refused.
     pub fn new(alloc: Global, places: u32) -> Result<(Board, Pass), AllocError>
         requires { (0 < places) × (places ≤ 1024) }
         ensures { IfOk result (λ r. (r.0.places ≡ places) × (r.1.board ≡ id_of r.0)
@@ -46,7 +47,8 @@ impl Board {
         Ok((Board { table, places }, Pass { seat }))
     }
 
-    /// A second pass, which has seen what this one has. It takes a part of the other's share, and no memory.
+    /// A second pass, which has seen what this one has. It takes one part of this one's share of the right to the
+    /// board, and no memory.
     pub fn split(&self, pass: &mut Pass) -> Pass
         requires board { pass.old.board ≡ id_of self.now }
         requires share { 1 < (pass.old.view).share }
@@ -60,7 +62,7 @@ impl Board {
         Pass { seat }
     }
 
-    /// One pass in place of two, which has seen what either has, and has both shares.
+    /// One pass in place of two, which has seen what either has, and has both shares of the right to the board.
     pub fn meet(&self, a: Pass, b: Pass) -> Pass
         requires board { (a.board ≡ id_of self.now) × (b.board ≡ id_of self.now) }
         ensures board { result.board ≡ id_of self.entry.now }
@@ -77,7 +79,7 @@ impl Board {
         Pass { seat }
     }
 
-    // Stores the words of a place that was claimed.
+    // Stores the 49 words of a basis in a place that this seat's pass has claimed, and does not mark it as done.
     fn fill(&self, seat: &mut Seat<u8, Sight>, place: u64, words: &BasisWords)
         requires board { (seat.old.table_id ≡ id_of self.now) × (place < self.now.places) }
         requires view { ((known seat.old).held ≡ Some (place, [])) × (0 < (known seat.old).share) }
@@ -90,7 +92,9 @@ impl Board {
         }
     }
 
-    /// Claims the next place and stores the words there, if no other pass takes it in between: one try.
+    /// Claims the next place, stores the words there and marks it as done, if there is a free one and no other pass
+    /// takes it in between: one try. Else it says that the board is full, or that another pass was quicker, and how
+    /// many places were claimed.
     pub fn publish(&self, pass: &mut Pass, words: &BasisWords) -> Put
         requires board { pass.old.board ≡ id_of self.now }
         requires formed { IsWellFormed words.now }
@@ -115,7 +119,7 @@ impl Board {
         Put::Published(count as u32)
     }
 
-    // The words of the place, if it is done and of this shape.
+    // The words of a place, if it is read as done and as having this shape; else none.
     fn see(&self, seat: &mut Seat<u8, Sight>, place: u64, shape: &ShapeWords) -> Option<BasisWords>
         requires board { (seat.old.table_id ≡ id_of self.now) × (place < self.now.places) }
         requires share { 0 < (known seat.old).share }
@@ -143,7 +147,8 @@ impl Board {
         Some(words)
     }
 
-    // From the newest place down to the first that is done and of this shape.
+    // Looks at the places from the newest down to the first that is done and of this shape. Without one it gives how
+    // many are claimed.
     fn look_down(&self, seat: &mut Seat<u8, Sight>, shape: &ShapeWords) -> Look
         requires board { (seat.old.table_id ≡ id_of self.now) × ((known seat.old).places ≡ self.now.places) }
         requires idle { ((known seat.old).held ≡ None) × (0 < (known seat.old).share) }
@@ -163,7 +168,8 @@ impl Board {
         Look::NoneReady(count as u32)
     }
 
-    /// The newest place that is read as done with this shape. It reads each place at most once.
+    /// The newest place that is read as done with this shape, with its words; else how many places are claimed. It
+    /// reads each place at most once.
     pub fn look(&self, pass: &mut Pass, shape: &ShapeWords) -> Look
         requires { pass.old.board ≡ id_of self.now }
         ensures board { pass.new.board ≡ pass.old.board }

@@ -10,8 +10,9 @@ ghost use Rattle.basis_board.specs.Rule.{Consistent, OwnsBelow};
 ghost use Rattle.basis_board.specs.contracts.seats.BoardRuleTableRuleU8SightU64.TheImpl.{holds-value as rule_holds};
 ghost use Rattle.basis_board.specs.Seen.{words_of, IsPrefixOf};
 
-/// A step that changes a word changes the places that the words spell as one event does. A step that loads a word finds
-/// what its event reads.
+/// In each state that keeps the rule, a load finds what the places say that the words spell. A claim adds a taken place
+/// behind them. By the pass that claimed a place, the store of a payload word changes none, and the store of the done
+/// word, with all 49 words stored, shows the place.
 pub fn steps_are_events()
     ensures { AllTies }
 {}
@@ -22,8 +23,8 @@ pub fn meaning()
     ensures { AllMeans }
 {}
 
-/// The words that a pass has seen of a place are the first of those that it sees there later, after it met another pass
-/// too.
+/// The words that a pass has seen of a place are the first of those that it has seen there later, by itself or after it
+/// met another pass.
 pub fn seen_words_stay()
     ensures later { (v : View) (more old : List (ℕ × List ℕ)) (k : ℕ) (words : List ℕ) →
         Consistent v → v.seen ≡ more ++ old →
@@ -33,7 +34,8 @@ pub fn seen_words_stay()
         words_of k old ≡ Some words → (now : List ℕ) × (words_of k v.seen ≡ Some now) × IsPrefixOf words now }
 {}
 
-/// A pass that has met all others has published as many places as the count on the board says.
+/// A pass that published each place below a count once, and no other, has published as many places as the count. So it
+/// is of a pass that has met all others.
 pub fn whole_passes_own_all()
     ensures { (v : View) (count : ℕ) → OwnsBelow v count → length v.own ≡ count }
 {}

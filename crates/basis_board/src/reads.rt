@@ -47,15 +47,16 @@ pub fn reads_change_the_board()
         Answers places now session made next → Changes now made next }
 {}
 
-/// In each state that keeps the board's rule, each kind of step is one read of the places that the words spell. The
-/// places answer it, and the words that the step leaves spell the places that it leaves.
+/// In each state that keeps the board's rule, each kind of step but one is one read of the places that the words
+/// spell. The places answer it, and the words that the step leaves spell the places that it leaves. The store of a
+/// payload word is no read, and changes no place.
 pub fn steps_are_reads()
     ensures { (places : ℕ) (s : State ℕ View) (now : List ExactPlace) →
         Kept places s → AreSpelled s.words now → StepsAreReads places s now }
 {}
 
-/// No kind of step, and none that anyone may yet write, notes by a load or by a lost compare-exchange a read that the
-/// places do not answer when it is taken.
+/// A kind of step, also one that anyone may yet write, may note a read by a load or by a lost compare-exchange. Where
+/// it is of the count, or of a claimed place and words that it has, the places answer this read when it is taken.
 pub fn any_kind_is_answered()
     ensures { AnyKindIsAnswered }
 {}
@@ -82,7 +83,8 @@ pub fn backed_in_any_order()
 {}
 
 /// What workers read, each by a pass of its own, stands in one order, in which places answer one read after the other.
-/// It is so if the notes of their passes together are those of all passes of a board.
+/// It is so if the notes of their passes together are those of all passes of a board, and what was read is backed by
+/// what was published.
 pub fn whole_logs_are_played()
     ensures { WholeLogsArePlayed }
 {}

@@ -21,7 +21,7 @@ pub enum RawRead {
     Done(u64, LinkedList<u64>),
 }
 
-/// What a pass knows. It stands in contracts alone: no value of it is made.
+/// What a pass knows: what it has seen, published and read. It stands in contracts alone: no value of it is made.
 pub struct View {
     /// How many places the board has.
     pub places: u64,
@@ -44,7 +44,7 @@ pub struct Sight {
     pub moments: LinkedList<(u64, LinkedList<u64>)>,
 }
 
-/// The rule of the board's words.
+/// The rule that each step on a board's table keeps (`KeptInTime`), and what the first pass of a board knows.
 pub struct BoardRule;
 
 impl TableRule<u8, Sight, u64> for BoardRule {
@@ -74,5 +74,5 @@ impl Model for Pass {
     ghost invariant = { λ p. IsIdle p.seat };
 }
 
-/// The words of a board.
+/// The table of a board's words, which keeps the board's rule.
 pub type Words = Table<u8, Sight, u64, BoardRule, Global>;

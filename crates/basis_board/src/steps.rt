@@ -5,42 +5,42 @@ ghost use Rattle.basis_board.specs.Moments.{in_time, learned_in_time, left_sight
 use crate::seats::Sight;
 use atomic_table::{Join, Play, Split};
 
-/// A load of the count.
+/// A load of the count, which the pass notes as a read.
 pub struct Counts;
 
 impl Play<u8, Sight> for Counts {
     ghost then = { in_time counted };
 }
 
-/// A compare-exchange of the count with the next number.
+/// A compare-exchange of the count with the next number, by which a pass claims the next place or loses it.
 pub struct Claims;
 
 impl Play<u8, Sight> for Claims {
     ghost then = { in_time claimed };
 }
 
-/// A store of a word of the claimed place.
+/// A store of one payload word of the place that the pass has claimed, which is no read.
 pub struct Writes;
 
 impl Play<u8, Sight> for Writes {
     ghost then = { in_time wrote };
 }
 
-/// A store of the claimed place's done word.
+/// A store of 1 as the done word of the place that the pass has claimed, which publishes it.
 pub struct Finishes;
 
 impl Play<u8, Sight> for Finishes {
     ghost then = { in_time published };
 }
 
-/// A load of a done word.
+/// A load of the done word of a place, which the pass notes as done or not.
 pub struct Sees;
 
 impl Play<u8, Sight> for Sees {
     ghost then = { in_time saw };
 }
 
-/// A load of a word of a place that is done.
+/// A load of the next payload word of the place that the pass saw last as done.
 pub struct Reads;
 
 impl Play<u8, Sight> for Reads {
@@ -54,7 +54,7 @@ impl Play<u8, Sight> for Learns {
     ghost then = { learned_in_time };
 }
 
-/// A pass parted in two.
+/// A pass split in two, of which the new one gets one part of the right to the board.
 pub struct Parts;
 
 impl Split<Sight> for Parts {
@@ -63,7 +63,7 @@ impl Split<Sight> for Parts {
     ghost right = { right_sight };
 }
 
-/// Two passes met into one.
+/// Two passes merged into one, which knows what both did and has their parts of the right to the board.
 pub struct Joins;
 
 impl Join<Sight> for Joins {
