@@ -29,6 +29,7 @@ use Rattle.lp_line.specs.Script.{NextAsk, taken_at, script_step, ScriptSays}
 use Rattle.lp_line.specs.Takes.{TakesNone, TakesNext, TakesMore}
 use Rattle.lp_line.proofs.ScriptTurns.{behind_step}
 
+-- requests, each with the number of its session
 abbrev Asks : Type 0
 Asks = List (Asked ExactAsk)
 
@@ -48,6 +49,7 @@ none_some {P} b rest e = absurd (differ e)
     differ : ◌≡◌ {A = Asks} [] (b ∷ rest) → ⊥
     differ e = cc
 
+-- no further request is left, and the script is between two commands
 record IsDone (rest : Asks) (after : Pending) : Type 0 where
   alone : rest ≡ []
   between : after ≡ Between
@@ -160,10 +162,13 @@ at_end addressing pending = refl
 
 -- ---- what was taken
 
+-- the answer is what lines of a script say from between two commands on
 abbrev Say : Addressing → List (Line (List ℕ)) → Option NextAsk → Type 0
 Say addressing lines answer = ScriptSays (stage.Between addressing) lines answer
 
 module _ (addressing : Addressing) (before after : Option (List ℕ)) (old new : LinesState) where
+  -- where lines are heard to say `what` at their last one, this line says the ask that it completes in the script
+  -- behind the earlier ones
   asked_at : (what : NextAsk) (h : HearsAt (Say addressing) before after old new what) →
       SaysAsk addressing (pending_after addressing Between h.earlier) h.last what
   asked_at what h =
@@ -171,7 +176,7 @@ module _ (addressing : Addressing) (before after : Option (List ℕ)) (old new :
       says_ask addressing (pending_after addressing Between h.earlier) h.last what h.last_given.0
       (sym (s.behind (h.last ∷ [])) ∙ h.says [] addressing Between refl)
 
-  -- the last line completes an ask
+  -- where lines are heard to say something at their last one, the next request is taken with it
   takes_ask : (what : NextAsk) → HearsAt (Say addressing) before after old new what →
       TakesNext addressing before after old new what
   takes_ask what h =
@@ -195,6 +200,7 @@ module _ (addressing : Addressing) (before after : Option (List ℕ)) (old new :
         numbered = asked_session addressing h.earlier h.last a.asked a.asks;
       })
 
+  -- where lines that say nothing are followed by an end of the input or a failure, no request is taken from them
   none : (result : Result (Line (List ℕ)) LineStop) → HearsUntil (Say addressing) before after old result →
       TakesNone addressing before after old result
   none result h = record {
@@ -204,6 +210,7 @@ module _ (addressing : Addressing) (before after : Option (List ℕ)) (old new :
     asks = (silent_lines addressing Between h.passed h.given (h.silent addressing Between refl)).no_asks;
   }
 
+  -- where the input ends after lines that say nothing, the next ask is taken with the end that the pending state gives
   end_taken : (h : HearsUntil (Say addressing) before after old (Ok line.End)) (pending : Pending) →
       ending_by (pending_after addressing Between h.passed) ≡ ending_by pending →
       TakesNext addressing before after old new (taken_at (ending_by pending))
@@ -212,6 +219,7 @@ module _ (addressing : Addressing) (before after : Option (List ℕ)) (old new :
   end_taken h (Text session form body) e = record { none = none (Ok line.End) h; ends = e }
   end_taken h (Certificate session body) e = record { none = none (Ok line.End) h; ends = e }
 
+  -- what is said at the end of the input is the end that the pending state gives
   said_at_end : (what : NextAsk) (h : HearsAtEnd (Say addressing) before after old what) →
       what ≡ taken_at (ending_by (pending_after addressing Between h.until.passed))
   said_at_end what h =
@@ -220,33 +228,39 @@ module _ (addressing : Addressing) (before after : Option (List ℕ)) (old new :
       (sym (h.says addressing Between refl) ∙ s.behind (line.End ∷ [])
       ∙ at_end addressing (pending_after addressing Between h.until.passed))
 
+  -- where something is heard at the end of the input, the next ask is taken with it
   takes_end : (what : NextAsk) → HearsAtEnd (Say addressing) before after old what →
       TakesNext addressing before after old new what
   takes_end what h =
       subst (λ (w : NextAsk). TakesNext addressing before after old new w) (sym (said_at_end what h))
       (end_taken h.until (pending_after addressing Between h.until.passed) refl)
 
+  -- where something is heard, at a line or at the end, the next ask is taken with it
   takes_said : (what : NextAsk) → HearsNext (Say addressing) before after old new (Ok (heard.Says what)) →
       TakesNext addressing before after old new what
   takes_said what (inl h) = takes_ask what h
   takes_said what (inr h) = takes_end what h
 
+  -- where hearing the next lines gives that they say `what`, the next ask is taken with `what`
   pub takes : (found : Heard NextAsk) (what : NextAsk) → found ≡ heard.Says what →
       HearsNext (Say addressing) before after old new (Ok found) → TakesNext addressing before after old new what
   takes found what is h =
       takes_said what (subst (λ (f : Heard NextAsk). HearsNext (Say addressing) before after old new (Ok f)) is h)
 
+  -- where the input is heard to be too long, the next ask is taken with the halt `Over`
   pub too_long : (found : Heard NextAsk) → found ≡ heard.Over →
       HearsNext (Say addressing) before after old new (Ok found) →
       TakesNext addressing before after old new (Err halts.Over)
   too_long found is h =
       none (Ok line.Over) (subst (λ (f : Heard NextAsk). HearsNext (Say addressing) before after old new (Ok f)) is h)
 
+  -- where hearing stops, the next ask is taken with the halt of this stop
   stopped_by : (why : LineStop) → HearsNext (Say addressing) before after old new (Err why) →
       TakesNext addressing before after old new (Err (halt_of why))
   stopped_by stop.Read h = none (Err stop.Read) h
   stopped_by stop.NoMemory h = h
 
+  -- where hearing the next lines stops, the next ask is taken with the halt that this stop is
   pub stopped : (result : NextAsk) (why : LineStop) → result ≡ Err (halt_of why) →
       HearsNext (Say addressing) before after old new (Err why) → TakesNext addressing before after old new result
   stopped result why is h =
@@ -254,19 +268,23 @@ module _ (addressing : Addressing) (before after : Option (List ℕ)) (old new :
 
   -- what is said of a script is no failed read
 
+  -- a request is no failed read
   no_fault_in : (asked : Asked ExactAsk) → ◌≡◌ {A = NextAsk} (Ok (Some asked)) (Err halts.Read) → ⊥
   no_fault_in asked e = cc
 
+  -- an end of the input is never taken for a failed read
   no_fault_at : (ending : Ending) → taken_at ending ≡ Err halts.Read → ⊥
   no_fault_at Ended e = cc
   no_fault_at Cut e = cc
   no_fault_at Over e = cc
 
+  -- what is heard is never that a read failed
   said_no_fault : (what : NextAsk) → HearsNext (Say addressing) before after old new (Ok (heard.Says what)) →
       what ≡ Err halts.Read → ⊥
   said_no_fault what (inl h) e = let a = asked_at what h in no_fault_in a.asked (sym a.is_said ∙ e)
   said_no_fault what (inr h) e = no_fault_at _ (sym (said_at_end what h) ∙ e)
 
+  -- what the lines are heard to say is never that a read failed
   pub no_fault : {P : Type 0} (found : Heard NextAsk) (what : NextAsk) → found ≡ heard.Says what →
       HearsNext (Say addressing) before after old new (Ok found) → what ≡ Err halts.Read → P
   no_fault found what is h e =
@@ -275,21 +293,25 @@ module _ (addressing : Addressing) (before after : Option (List ℕ)) (old new :
 
   -- an ask takes a byte at least
 
+  -- where a byte more was taken and no more than 2 ^ 26 in all, it is so of a request, if what is said is one
   more_at : (what : NextAsk) → (old.given < new.given) × (new.given ≤ 2 ^ 26) → TakesMore old new what
   more_at (Ok (Some asked)) more = more
   more_at (Ok None) more = tt
   more_at (Err halt) more = tt
 
+  -- an end of the input need not take a byte more
   more_at_end : (ending : Ending) → TakesMore old new (taken_at ending)
   more_at_end Ended = tt
   more_at_end Cut = tt
   more_at_end Over = tt
 
+  -- what is heard takes at least one byte more, unless it is an end, and at most 2 ^ 26 are given in all
   more_said : (what : NextAsk) → HearsNext (Say addressing) before after old new (Ok (heard.Says what)) →
       TakesMore old new what
   more_said what (inl h) = more_at what (h.grows, h.bound)
   more_said what (inr h) = subst (λ (w : NextAsk). TakesMore old new w) (sym (said_at_end what h)) (more_at_end _)
 
+  -- where the lines are heard to say an ask, at least one byte more was given, and at most 2 ^ 26 in all
   pub takes_more : (found : Heard NextAsk) (what : NextAsk) → found ≡ heard.Says what →
       HearsNext (Say addressing) before after old new (Ok found) → TakesMore old new what
   takes_more found what is h =

@@ -19,7 +19,7 @@ use Rattle.lp_line.specs.declared.hearing.Heard.{Heard}
 use Rattle.lp_line.specs.declared.hearing.Heard.TheVariants as heard
 use Rattle.lp_line.specs.Hearing.{Leads, IsGiven, AreGiven, HearsAt, HearsUntil, HearsNext}
 
--- a line takes a byte at least
+-- a line that is neither the end nor too much takes at least one byte more, and at most 2 ^ 26 were taken in all
 takes_more : {before after : Option (List ℕ)} {old new : LinesState} (next : Line (List ℕ)) →
     GivesNext before after old new (Ok next) →
     next ≢ line.End → next ≢ line.Over → (old.given < new.given) × (new.given ≤ 2 ^ 26)
@@ -38,7 +38,8 @@ one_more : (passed : List (Line (List ℕ))) (next : Line (List ℕ)) → AreGiv
 one_more passed next given no_end no_over =
     let now : IsGiven next = (no_end, no_over) in All-push (λ (l : Line (List ℕ)). IsGiven l) passed next given now
 
--- these lines were read, which lead from the first stage to this one
+-- a turn of the reading: lines were read from the start on, and what further lines say from the stage `at` on is what
+-- they say from the first stage on behind these lines
 pub record Turn {T R : Type 0} (Say : T → List (Line (List ℕ)) → Option R → Type 0) (count : T → ℕ) (first : T)
     (before now : Option (List ℕ)) (old reading : LinesState) (at : T) : Type 0 where
   pub passed : List (Line (List ℕ))
@@ -50,6 +51,7 @@ pub record Turn {T R : Type 0} (Say : T → List (Line (List ℕ)) → Option R 
   pub small : count at ≤ 2 ^ 26
 
 module _ {T R : Type 0} {Say : T → List (Line (List ℕ)) → Option R → Type 0} {count : T → ℕ} {first : T} where
+  -- before anything is read, the reading is at a turn at which no lines were read
   pub started : (left : Option (List ℕ)) (reading : LinesState) → count first ≡ 0 →
       Turn Say count first left left reading reading first
   started left reading none = record {
@@ -62,13 +64,14 @@ module _ {T R : Type 0} {Say : T → List (Line (List ℕ)) → Option R → Typ
     small = omega (arith, none);
   }
 
+  -- at each turn the count of lines is below 2 ^ 32 - 1
   pub in_range : {before now : Option (List ℕ)} {old reading : LinesState} {at : T} →
       Turn Say count first before now old reading at → count at < 2 ^ 32 - 1
   in_range t = omega (arith, t.small)
 
   module _ {before now : Option (List ℕ)} {old reading : LinesState} {at : T}
       (t : Turn Say count first before now old reading at) (after : Option (List ℕ)) (new : LinesState) where
-    -- one more line was read
+    -- a line that leads on brings the reading to the next turn, with this line read and at the stage to which it leads
     pub on_line : (here : Line (List ℕ)) → GivesNext now after reading new (Ok here) → here ≢ line.Over → (next : T) →
         Leads Say count at here (step.On next) → Turn Say count first before after old new next
     on_line here g no_over next leads =
@@ -86,15 +89,17 @@ module _ {T R : Type 0} {Say : T → List (Line (List ℕ)) → Option R → Typ
           small = omega (arith, leads.counts, t.few, more.0, more.1);
         }
 
+    -- a line that leads on and is not too long takes at least one byte more, and at most 2 ^ 26 are given in all
     pub goes_down : (here : Line (List ℕ)) → GivesNext now after reading new (Ok here) → here ≢ line.Over → (next : T) →
         Leads Say count at here (step.On next) → (reading.given < new.given) × (new.given ≤ 2 ^ 26)
     goes_down here g no_over next leads = takes_more here g leads.no_end no_over
 
-    -- the lines so far say nothing
+    -- where no lines say nothing from the stage of a turn on, the lines read so far say nothing
     silent_so_far : Say at [] None → Say first t.passed None
     silent_so_far silent =
         subst (λ (ls : List (Line (List ℕ))). Say first ls None) (append-nil t.passed) (t.comes [] None silent)
 
+    -- where the lines so far say nothing, and the next one leads to something said, it is heard at this line
     said_at : Say at [] None → (here : Line (List ℕ)) → GivesNext now after reading new (Ok here) → here ≢ line.End →
         here ≢ line.Over → (what : R) →
         Leads Say count at here (step.Says what) → HearsAt (Say first) before after old new what
@@ -112,12 +117,14 @@ module _ {T R : Type 0} {Say : T → List (Line (List ℕ)) → Option R → Typ
           bound = more.1;
         }
 
+    -- where the lines so far say nothing, they are heard up to what the next reading gives
     until : Say at [] None → (result : Result (Line (List ℕ)) LineStop) → GivesNext now after reading new result →
         HearsUntil (Say first) before after old result
     until silent result g =
         record { passed = t.passed; reads = reads_until t.reads g; given = t.given; silent = silent_so_far silent }
 
-    -- something is said at a line, or at the end
+    -- where a line or the end of the input leads to a result, and the lines so far say nothing, the reading hears that
+    -- result
     pub says_so : Say at [] None → (here : Line (List ℕ)) → GivesNext now after reading new (Ok here) →
         here ≢ line.Over → (what : R) →
         Leads Say count at here (step.Says what) → HearsNext (Say first) before after old new (Ok (heard.Says what))
@@ -130,17 +137,20 @@ module _ {T R : Type 0} {Say : T → List (Line (List ℕ)) → Option R → Typ
         inr (record { until = until silent (Ok line.End) g; says = t.comes (line.End ∷ []) (Some what) (leads []) })
     says_so silent line.Over g no_over what leads = absurd (no_over refl)
 
-    -- no line came
+    -- where the source failed or memory ran out in place of a line, and the lines so far say nothing, the reading stops
+    -- for that reason
     pub stopped : Say at [] None → (why : LineStop) → GivesNext now after reading new (Err why) →
         HearsNext (Say first) before after old new (Err why)
     stopped silent stop.Read g = until silent (Err stop.Read) g
     stopped silent stop.NoMemory g = record { passed = t.passed; reads = inr (reads_until t.reads g) }
 
+    -- where the input is longer than may be read, and the lines so far say nothing, the reading hears that it is too
+    -- long
     pub too_long : Say at [] None → GivesNext now after reading new (Ok line.Over) →
         HearsNext (Say first) before after old new (Ok heard.Over)
     too_long silent g = until silent (Ok line.Over) g
 
-    -- memory was wanting for what a line leads to
+    -- where a line was read, and memory ran out for what it leads to, the reading stops for lack of memory
     pub wants : (here : Line (List ℕ)) → GivesNext now after reading new (Ok here) → here ≢ line.Over →
         HearsNext (Say first) before after old new (Err stop.NoMemory)
     wants (line.Text bytes) g no_over =

@@ -14,7 +14,7 @@ use Rattle.lp_line.specs.declared.edits.EditStop.TheVariants.{Fault, NoMemory}
 use Rattle.lp_line.specs.GivesWords.{GivesWords}
 use Rattle.lp_line.proofs.PairsLeft.{Words}
 
--- of an odd number of words one is left over
+-- an odd number of words makes no list of pairs
 two_by_two-odd : (words : List (List ℕ)) → length words % 2 ≢ 0 → two_by_two words ≡ None
 unfolding two_by_two
 two_by_two-odd [] odd = absurd (odd refl)
@@ -22,7 +22,7 @@ two_by_two-odd (word ∷ []) odd = refl
 two_by_two-odd (name ∷ value ∷ words) odd =
     ap (option_map (λ pairs. (name, value) ∷ pairs)) (two_by_two-odd words (omega arith))
 
--- and of an even one none
+-- an even number of words makes a list of pairs
 two_by_two-even : (words : List (List ℕ)) → length words % 2 ≡ 0 → (pairs : Words) × (two_by_two words ≡ Some pairs)
 unfolding two_by_two
 two_by_two-even [] even = ([], refl)
@@ -37,7 +37,8 @@ pub odd_column : (name cost : List ℕ) (words : List (List ℕ)) → length wor
 odd_column name cost words odd = ap (column_in name cost) (two_by_two-odd words odd)
 
 module _ (name cost : List ℕ) (words : List (List ℕ)) (even : length words % 2 ≡ 0) where
-  -- the cost is read
+  -- where the cost reads as `answer`, and the words behind it are even in number, reading a new column is the answer's
+  -- fault, or else the reading of the pairs behind it
   cost_read : (answer : Reads ℚ) → number_in cost ≡ answer →
       column_in name cost (two_by_two words) ≡
       (answer >>= λ c. numbers_in (two_by_two-even words even).0 >>= λ ps. Ok (AddCol name c ps))
@@ -46,10 +47,12 @@ module _ (name cost : List ℕ) (words : List (List ℕ)) (even : length words %
       ap (column_in name cost) pairs.1
       ∙ ap (λ (a : Reads ℚ). a >>= λ c. numbers_in pairs.0 >>= λ ps. Ok (AddCol name c ps)) e
 
-  -- or it is no number
+  -- where reading the cost gives a fault, reading a new column gives this fault
   pub cost_fault : (why : LineFault) → number_in cost ≡ Err why → column_in name cost (two_by_two words) ≡ Err why
   cost_fault why e = cost_read (Err why) e
 
+  -- where the cost is the number v, the words are read as a new column with v and the pairs behind, or as the fault of
+  -- these
   pairs_read : (v : ℚ) → number_in cost ≡ Ok v → (result : Result Pairs EditStop) →
       IfSome (two_by_two words) (λ pairs. GivesWords (numbers_in pairs) result) →
       (answer : Reads Pairs) × (GivesWords answer result) ×
@@ -61,7 +64,7 @@ module _ (name cost : List ℕ) (words : List (List ℕ)) (even : length words %
         cost_read (Ok v) e,
       )
 
-  -- a pair's number is none
+  -- where the cost is a number, and reading the pairs stops, reading the new column stops for the same reason
   pub pairs_fault : (v : ℚ) → number_in cost ≡ Ok v → (stop : EditStop) (result : Result ExactEdit EditStop) →
       result ≡ Err stop →
       IfSome (two_by_two words) (λ pairs. GivesWords (numbers_in pairs) (Err stop)) →
@@ -76,7 +79,7 @@ module _ (name cost : List ℕ) (words : List (List ℕ)) (even : length words %
       by (Fault why) (answer, g, e) = e ∙ ap (λ (a : Reads Pairs). a >>= λ ps. Ok (AddCol name v ps)) g
       by NoMemory (answer, g, e) = tt
 
-  -- all is read
+  -- where the cost reads as v, and the words behind it as pairs, the words are the new column of this name, v and pairs
   pub column_read : (v : ℚ) → Ok v ≡ number_in cost → (pairs : Pairs) →
       IfSome (two_by_two words) (λ ps. GivesWords (numbers_in ps) (Ok pairs)) → (same : List ℕ) → same ≡ name →
       column_in name cost (two_by_two words) ≡ Ok (AddCol same v pairs)

@@ -8,7 +8,7 @@ use Rattle.spec_mps.specs.NumberText.{spelled_from}
 use Rattle.spec_mps.proofs.DigitLemmas.{spelled_grows}
 use Rattle.spec_server.specs.Command.{is_digit, begins_with_zero, number_to}
 
--- the last of five tests fails
+-- where the last of five tests fails, what all five guard is none
 last_fails : (s t u v w : Bool) (n : ℕ) → w ≡ false → None ≡ cond (s && t && u && v && w) (Some n) None
 last_fails s t u v true n e = absurd (let h = e in cc)
 last_fails true true true true false n e = refl
@@ -17,7 +17,7 @@ last_fails true true false v false n e = refl
 last_fails true false u v false n e = refl
 last_fails false t u v false n e = refl
 
--- the digits up to this one spell more than the last number
+-- where the digits up to place `at` come to more than the last number, the whole text is no number up to the last one
 pub too_large : (last digits : ℕ) (text : List ℕ) (at number : ℕ) →
     spelled_from 0 text ≡ spelled_from number (drop at text) → at < length text →
     last < number * 10 + (get_or text at 0 - 48) → None ≡ number_to last digits text

@@ -26,7 +26,8 @@ pub record PairsLeft (all : Words) (left : List (List ℕ)) (pairs : Pairs) : Ty
 
 -- ---- the first two words
 
--- the words after the first two
+-- where a name, a value and other words make pairs, these are the name with the value and then the pairs of the other
+-- words
 behind : (name value : List ℕ) (others : List (List ℕ)) (rest : Words) →
     two_by_two (name ∷ value ∷ others) ≡ Some rest →
     (more : Words) × (two_by_two others ≡ Some more) × (rest ≡ (name, value) ∷ more)
@@ -47,6 +48,8 @@ one_more (Err why) pairs p = refl
 
 module _ {all : Words} {name value : List ℕ} {others : List (List ℕ)} {pairs : Pairs}
     (left : PairsLeft all (name ∷ value ∷ others) pairs) where
+  -- where a name and a value are left, reading all pairs is reading the value, and then the pairs behind it, behind the
+  -- pairs read
   numbers_behind : (more : Words) → left.rest ≡ (name, value) ∷ more → (answer : Reads ℚ) → number_in value ≡ answer →
       numbers_in all ≡ ((answer >>= λ v. numbers_in more >>= λ rest. Ok ((name, v) ∷ rest)) >>=
       λ more. Ok (pairs ++ more))
@@ -56,6 +59,8 @@ module _ {all : Words} {name value : List ℕ} {others : List (List ℕ)} {pairs
       ∙ ap (λ (a : Reads ℚ). (a >>= λ v. numbers_in more >>= λ rest. Ok ((name, v) ∷ rest)) >>=
       λ more. Ok (pairs ++ more)) e
 
+  -- where the value of the first pair left reads as v, the words behind it are left, and the pairs read have it at
+  -- their end
   pair_read : (v : ℚ) → number_in value ≡ Ok v → PairsLeft all others (pairs ++ (name, v) ∷ [])
   pair_read v e =
       let first = behind name value others left.rest left.paired in
@@ -65,6 +70,7 @@ module _ {all : Words} {name value : List ℕ} {others : List (List ℕ)} {pairs
         numbers = numbers_behind first.0 first.2 (Ok v) e ∙ one_more (numbers_in first.0) pairs (name, v);
       }
 
+  -- where reading the value of the first pair left gives a fault, reading all pairs gives this fault
   pair_fault : (why : LineFault) → number_in value ≡ Err why → numbers_in all ≡ Err why
   pair_fault why e =
       let first = behind name value others left.rest left.paired in
@@ -83,15 +89,17 @@ two_first (first ∷ second ∷ others) name value l n v =
 
 module _ (words : List (List ℕ)) (all : Words) (pairs : Pairs) (left : PairsLeft all words pairs) (name value : List ℕ)
     (two : 2 ≤ length words) (n : name ≡ slice_index_or words 0 name) (v : value ≡ slice_index_or words 1 value) where
+  -- where at least two words are left, they are a name, a value and the words behind these
   two_left : PairsLeft all (name ∷ value ∷ take (length words - 2) (drop 2 words)) pairs
   two_left = subst (λ (ws : List (List ℕ)). PairsLeft all ws pairs) (two_first words name value two n v) left
 
-  -- the number after the first name that is left was read
+  -- where the word behind the first name that is left reads as v, the words behind these two are left, and the pairs
+  -- read have this one at their end
   first_read : (v : ℚ) → number_in value ≡ Ok v →
       PairsLeft all (take (length words - 2) (drop 2 words)) (pairs ++ (name, v) ∷ [])
   first_read v e = pair_read two_left v e
 
-  -- or it is none
+  -- where reading the word behind the first name that is left gives a fault, reading all pairs gives this fault
   pub first_fault : (why : LineFault) → number_in value ≡ Err why → numbers_in all ≡ Err why
   first_fault why e = pair_fault two_left why e
 

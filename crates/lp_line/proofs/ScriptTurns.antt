@@ -104,9 +104,11 @@ certificate_judged raw n (here ∷ lines) =
 
 -- ---- what is held of a body fits its lines
 
+-- how many lines a reader of a model's text has read
 abbrev lines_read : TextRead → ℕ
 lines_read reader = reader.lines
 
+-- how many lines a reader of a certificate has read
 abbrev lines_of_certificate : NarrowRead → ℕ
 lines_of_certificate reader = reader.lines
 

@@ -25,18 +25,20 @@ use Rattle.lp_line.specs.Hearing.{Leads}
 use Rattle.lp_line.specs.Stages.{NarrowRead, TextSaysWithin, CertificateSaid, certificate_step, CertificateSays}
 use Rattle.lp_line.specs.Stages as stages
 
+-- how many lines a reader of a model's text has read
 abbrev lines_read : TextRead → ℕ
 lines_read reader = reader.lines
 
 -- ---- a text
 
 module _ (limits : SizeLimits) where
-  -- none goes on after the end of the input
+  -- no reading of a model's text goes on after the end of the input
   no_text_behind_end : (style : Style) (state next : State) → text.step limits style state End ≡ Ok
       (text.More next) → ⊥
   unfolding text.step
   no_text_behind_end style state next e = cc
 
+  -- what lines say of a text is the same for equal styles and equal counts of lines
   at_same : (style form : Style) (state : State) (n m : ℕ) (more : List (Line (List ℕ))) → style ≡ form → n ≡ m →
       said_by (text_step limits style) (record { state = state; lines = n }) more ≡
       said_by (text_step limits form) (record { state = state; lines = m }) more
@@ -44,6 +46,7 @@ module _ (limits : SizeLimits) where
       ap (λ (s : Style). said_by (text_step limits s) (record { state = state; lines = n }) more) e
       ∙ ap (λ (k : ℕ). said_by (text_step limits form) (record { state = state; lines = k }) more) d
 
+  -- what a line of a model's text and those behind it say is what the outcome of the line leads to, and then the others
   by_outcome : (old : TextRead) (line : Line (List ℕ)) (more : List (Line (List ℕ))) (outcome : text.Outcome) →
       text.step limits old.style old.state line ≡ outcome →
       said_by (text_step limits old.style) (record { state = old.state; lines = old.lines }) (line ∷ more)
@@ -54,6 +57,7 @@ module _ (limits : SizeLimits) where
       next more))
       e
 
+  -- where the reader of texts takes a line and goes on, the line leads to the reader's next state
   pub text_goes_on : (old new : TextRead) (line : Line (List ℕ)) →
       feeds.GoesOn (text.step limits old.style old.state line) old.style (old.lines + 1) new →
       Leads (TextSaysWithin limits) lines_read old line (On new)
@@ -66,11 +70,13 @@ module _ (limits : SizeLimits) where
         (sym h) ∙ g.state);
   }
 
+  -- where the reader's step ends the text with a model, the line says this model
   pub text_spells : (old : TextRead) (line : Line (List ℕ)) (m : Model) →
       text.step limits old.style old.state line ≡ Ok (text.Done m) →
       Leads (TextSaysWithin limits) lines_read old line (Says (Ok m))
   text_spells old line m e = λ more. by_outcome old line more (Ok (text.Done m)) e
 
+  -- where the reader's step refuses the line, the line says the fault
   pub text_is_wrong : (old : TextRead) (line : Line (List ℕ)) (fault : MpsFault) →
       feeds.IsRefused (text.step limits old.style old.state line) (old.lines + 1) fault →
       Leads (TextSaysWithin limits) lines_read old line (Says (Err fault))
@@ -80,6 +86,7 @@ module _ (limits : SizeLimits) where
 
 -- ---- a certificate
 
+-- how many lines a reader of a certificate has read
 abbrev lines_of_certificate : NarrowRead → ℕ
 lines_of_certificate reader = reader.lines
 

@@ -4,7 +4,8 @@ use Rattle.spec_text.specs.declared.line.Line.{Line}
 use Rattle.lp_line.specs.declared.body.Body.{Body}
 use Rattle.lp_line.specs.declared.body.Body.TheVariants.{Reading, Read}
 
--- what lines say of a body; behind the line at which something was said they change nothing
+-- The answer is what these lines say of a body: while it is read, what they say from its stage on; once something was
+-- said of it, that, whatever the lines are.
 abbrev pub BodySays : {T R : Type 0} → (T → List (Line (List ℕ)) → Option R → Type 0) → Body T R →
     List (Line (List ℕ)) → Option R → Type 0
 BodySays Say (Reading stage) lines answer = Say stage lines answer
@@ -15,7 +16,8 @@ abbrev pub count_in : {T R : Type 0} → (T → ℕ) → Body T R → ℕ
 count_in count (Reading stage) = count stage
 count_in count (Read what) = 0
 
--- what more lines say of the next body is what they say of the body behind this line
+-- The line `here` takes the body to `next`: what more lines say of `next` is what they say of `body` behind that line.
+-- At most one line more is counted.
 pub record PassesTo {T R : Type 0} (Say : T → List (Line (List ℕ)) → Option R → Type 0) (count : T → ℕ)
     (body : Body T R) (here : Line (List ℕ)) (next : Body T R) : Type 0 where
   pub behind : (more : List (Line (List ℕ))) (answer : Option R) → BodySays Say next more answer →

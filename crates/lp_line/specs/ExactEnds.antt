@@ -4,7 +4,7 @@ use Rattle.spec_check.specs.Certificate.{IsFor}
 use Rattle.spec_solve.specs.declared.exact.ExactEnd.TheVariants.{Answered, Open}
 use Rattle.spec_solve.specs.Exact.{RationalEnd}
 
--- the certificate of its answer is one for the model
+-- if the exact solve ended with an answer, its certificate is one for the model; else nothing is asked
 abbrev pub HasFit : Model → RationalEnd → Type 0
 HasFit m (Answered a) = IsFor m a.certificate
 HasFit m Open = Unit {0}

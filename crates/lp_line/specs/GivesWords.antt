@@ -4,7 +4,8 @@ use Rattle.spec_server.specs.EditCommand.{Reads}
 use Rattle.lp_line.specs.declared.edits.EditStop.{EditStop}
 use Rattle.lp_line.specs.declared.edits.EditStop.TheVariants.{Fault, NoMemory}
 
--- the answer is what the definition reads of the words, or their fault; where memory ran out, nothing is claimed
+-- the code gives what the definition reads of the words: the value or the fault;
+-- of a stop for lack of memory nothing is asked
 abbrev pub GivesWords : {A : Type 0} → Reads A → Result A EditStop → Type 0
 GivesWords answer (Ok x) = answer ≡ Ok x
 GivesWords answer (Err (Fault fault)) = answer ≡ Err fault

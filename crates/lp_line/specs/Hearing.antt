@@ -14,15 +14,16 @@ use Rattle.lp_line.specs.declared.hearing.Heard.TheVariants as heard
 
 -- ---- one line
 
--- The next stage is one line further, and after the line lines say what they say after the next stage. No stage follows
--- the end of the input.
+-- The line `here` leads from a stage to `next`: what more lines say from `next` on is what they say behind that line.
+-- At most one line more is counted, and `here` is not the end of the input.
 pub record LeadsOn {T R : Type 0} (Say : T → List (Line (List ℕ)) → Option R → Type 0) (count : T → ℕ) (stage : T)
     (here : Line (List ℕ)) (next : T) : Type 0 where
   pub behind : (more : List (Line (List ℕ))) (answer : Option R) → Say next more answer → Say stage (here ∷ more) answer
   pub counts : count next ≤ count stage + 1
   pub no_end : here ≢ line.End
 
--- a line leads to a further state of the reading, or to a result, whatever lines follow
+-- The line leads from a stage to this: a further stage, with which the reading goes on, or a result, which is said
+-- whatever lines follow.
 abbrev pub Leads : {T R : Type 0} → (T → List (Line (List ℕ)) → Option R → Type 0) → (T → ℕ) → T → Line (List ℕ) →
     Step T R → Type 0
 Leads Say count stage here (step.On next) = LeadsOn Say count stage here next
@@ -30,15 +31,16 @@ Leads Say count stage here (step.Says what) = (more : List (Line (List ℕ))) �
 
 -- ---- many lines
 
--- a line that was given does not stand for the end of an input
+-- the line is a real one: it does not stand for the end of the input, nor for an input that is too long
 abbrev pub IsGiven : Line (List ℕ) → Type 0
 IsGiven next = (next ≢ line.End) × (next ≢ line.Over)
 
--- none of the lines stands for the end of an input
+-- each line is a real one: none stands for the end of the input, nor for an input that is too long
 abbrev pub AreGiven : List (Line (List ℕ)) → Type 0
 AreGiven lines = All IsGiven lines
 
--- these lines were read, and the last of them is the first at which something is said
+-- Lines were read, up to the first one at which something is said, which is `what`, whatever lines follow. At least one
+-- byte was taken.
 pub record HearsAt {R : Type 0} (Say : List (Line (List ℕ)) → Option R → Type 0) (before after : Option (List ℕ))
     (old new : LinesState) (what : R) : Type 0 where
   pub earlier : List (Line (List ℕ))
@@ -51,7 +53,8 @@ pub record HearsAt {R : Type 0} (Say : List (Line (List ℕ)) → Option R → T
   pub grows : old.given < new.given
   pub bound : new.given ≤ 2 ^ 26
 
--- these lines were read, which say nothing, and then this came
+-- lines were read at which nothing is said, and behind them the reading gave this result: that the input ends, that it
+-- is too long, or a failure
 pub record HearsUntil {R : Type 0} (Say : List (Line (List ℕ)) → Option R → Type 0) (before after : Option (List ℕ))
     (old : LinesState) (result : Result (Line (List ℕ)) LineStop) : Type 0 where
   pub passed : List (Line (List ℕ))
@@ -59,13 +62,13 @@ pub record HearsUntil {R : Type 0} (Say : List (Line (List ℕ)) → Option R �
   pub given : AreGiven passed
   pub silent : Say passed None
 
--- the input ended after them, and this is said at its end
+-- the input ended behind lines at which nothing is said, and `what` is said at its end
 pub record HearsAtEnd {R : Type 0} (Say : List (Line (List ℕ)) → Option R → Type 0) (before after : Option (List ℕ))
     (old : LinesState) (what : R) : Type 0 where
   pub until : HearsUntil Say before after old (Ok line.End)
   pub says : Say (until.passed ++ line.End ∷ []) (Some what)
 
--- memory ran out after these lines, or for what the last of them leads to
+-- some lines were read, and then memory ran out, for a further line or for what the last one leads to
 pub record TakesPart (before after : Option (List ℕ)) (old new : LinesState) : Type 0 where
   pub passed : List (Line (List ℕ))
   pub reads : ReadsLines before after old new passed ⊎ ReadsUntil before after old passed (Err stop.NoMemory)

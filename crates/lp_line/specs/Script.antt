@@ -32,13 +32,14 @@ use Rattle.lp_line.specs.Stages.{NarrowRead, TextSays, CertificateSaid, certific
 abbrev pub NextAsk : Type 0
 NextAsk = Result (Option (Asked ExactAsk)) Halt
 
--- the answer of the reading where the input ends: none between two commands, and else why it halts
+-- what the reading of a script gives where the input ends: no request between two commands; else the halt, cut off
+-- inside a text or certificate, or too long
 abbrev pub taken_at : Ending → NextAsk
 taken_at Ended = Ok None
 taken_at Cut = Err halts.Cut
 taken_at Over = Err halts.Over
 
--- after the requests of a line
+-- what a line leads to by the requests that it completes: the first of them, or where there is none the next state
 abbrev pub behind_asks : List (Asked ExactAsk) → Pending → Step Pending NextAsk
 behind_asks [] next = On next
 behind_asks (asked ∷ more) next = Says (Ok (Some asked))
@@ -76,13 +77,15 @@ Fits addressing (Text session form lines) (stage.Text own body) = (own ≡ sessi
 Fits addressing (Certificate session lines) (stage.Certificate own body) = (own ≡ session) × CertificateFits lines body
 Fits addressing pending other = ⊥
 
--- what lines say of a script that stands there
+-- the answer is what these lines say of a script from this stage on: a request, its end or a halt; none where more
+-- lines are needed
 abbrev pub ScriptSays : ScriptStage → List (Line (List ℕ)) → Option NextAsk → Type 0
 ScriptSays here lines answer =
     (addressing : Addressing) (pending : Pending) → Fits addressing pending here →
     said_by (script_step addressing) pending lines ≡ answer
 
--- how many lines the body has, with the line of its command
+-- how many lines of a text or certificate were read, and one for the line of its command; 1 once the result of the body
+-- is known, and 0 between two commands
 abbrev pub lines_in : ScriptStage → ℕ
 lines_in (stage.Between addressing) = 0
 lines_in (stage.Text session body) = count_in (λ (reader : text_reading.TextRead). reader.lines) body + 1
@@ -91,27 +94,27 @@ lines_in (stage.Certificate session body) =
 
 -- ---- parts of a step
 
--- the end of a script that stands there
+-- what the reading gives where the input ends in this stage of a script
 abbrev pub IsEndOf : ScriptStage → NextAsk → Type 0
 IsEndOf here end =
     (addressing : Addressing) (pending : Pending) → Fits addressing pending here → taken_at (ending_by pending) ≡ end
 
--- a body begins, of which nothing was read
+-- behind this command a text or certificate begins, and `next` is the stage at which nothing of it was read
 pub record BeginsBody (session : ℕ) (command : ExactCommand) (next : ScriptStage) : Type 0 where
   pub none : asks_of_command session command ≡ []
   pub fits : (addressing : Addressing) → Fits addressing (begun session command) next
   pub counts : lines_in next ≤ 1
 
--- the command's request is complete
+-- there is one request, and the reading gives it
 abbrev pub Asks : List (Asked ExactAsk) → NextAsk → Type 0
 Asks asks what = (asked : Asked ExactAsk) × (what ≡ Ok (Some asked)) × (asks ≡ asked ∷ [])
 
--- what a command leads to: a body, or its request
+-- what the code makes of a command fits: the stage with which its text or certificate begins, or its request
 abbrev pub Begins : ℕ → ExactCommand → code.Step ScriptStage NextAsk → Type 0
 Begins session command (step.On next) = BeginsBody session command next
 Begins session command (step.Says what) = Asks (asks_of_command session command) what
 
--- what the verdict on a model's text says
+-- the verdict on a model's text as what is said of it: the model, or the first wrong line and its fault
 abbrev pub verdict_said : text.Verdict → TextSaid
 verdict_said (text.Spelled m) = Ok m
 verdict_said (text.Refused n code) = Err (record { line = n; code = code })

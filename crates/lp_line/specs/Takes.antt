@@ -14,7 +14,8 @@ use Rattle.lp_line.specs.Hearing.{AreGiven, TakesPart}
 use Rattle.lp_line.specs.declared.halt.Halt.TheVariants as halts
 use Rattle.lp_line.specs.Script.{NextAsk}
 
--- these lines were read, and the last of them completes this ask, the only one
+-- Lines were read, of which the last one completes this request, and none before it completes one; behind it the script
+-- is between two commands. The session is at most 64.
 pub record TakesAsk (addressing : Addressing) (before after : Option (List ℕ)) (old new : LinesState)
     (asked : Asked ExactAsk) : Type 0 where
   pub passed : List (Line (List ℕ))
@@ -28,7 +29,8 @@ pub record TakesAsk (addressing : Addressing) (before after : Option (List ℕ))
   pub between : pending_after addressing Between passed ≡ Between
   pub numbered : asked.session ≤ 64
 
--- these lines were read, which complete no ask, and then this came
+-- lines were read that complete no request, and behind them the reading gave this result: that the input ends, that it
+-- is too long, or a failure
 pub record TakesNone (addressing : Addressing) (before after : Option (List ℕ)) (old : LinesState)
     (result : Result (Line (List ℕ)) LineStop) : Type 0 where
   pub passed : List (Line (List ℕ))
@@ -36,7 +38,7 @@ pub record TakesNone (addressing : Addressing) (before after : Option (List ℕ)
   pub given : AreGiven passed
   pub asks : asks_from addressing Between passed ≡ []
 
--- the input ended after them, and the script so
+-- the input ended behind lines that complete no request, and the script ends so
 pub record TakesEnd (addressing : Addressing) (before after : Option (List ℕ)) (old : LinesState)
     (ending : Ending) : Type 0 where
   pub none : TakesNone addressing before after old (Ok line.End)
@@ -54,7 +56,7 @@ TakesNext addressing before after old new (Err halts.Read) = TakesNone addressin
 TakesNext addressing before after old new (Err halts.NoMemory) = TakesPart before after old new
 TakesNext addressing before after old new (Err halts.Write) = ⊥
 
--- a request takes a byte at least
+-- if there is a request, at least one byte was taken for it, and no more than 2 ^ 26 in all; else nothing is asked
 abbrev pub TakesMore : LinesState → LinesState → NextAsk → Type 0
 TakesMore old new (Ok (Some asked)) = (old.given < new.given) × (new.given ≤ 2 ^ 26)
 TakesMore old new (Ok None) = Unit {0}

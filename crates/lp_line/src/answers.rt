@@ -69,7 +69,8 @@ pub(crate) fn push_known(alloc: Global, known: &Known, to: &mut Bytes) -> Result
     }
 }
 
-/// Adds a verdict on a certificate to a text.
+/// Adds a verdict on a certificate to a text: `YES` with what is known, `NO` with the number of a condition, or `PAST`
+/// with the operation.
 pub(crate) fn push_verdict(
     alloc: Global,
     verdict: &Verdict,
@@ -87,7 +88,7 @@ pub(crate) fn push_verdict(
     }
 }
 
-/// A space, and the word of why a warm start was given up.
+/// The text of a space and the word for why a warm start was given up.
 pub fn fall_suffix(fall: Fall) -> &'static [u8]
     ensures { result.now ≡ codes " " ++ output.fall_text fall }
 {

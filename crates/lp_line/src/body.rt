@@ -27,7 +27,7 @@ fn read_on<T: Stage>(alloc: Global, stage: T, line: &Line) -> Result<Body<T, T::
     }
 }
 
-/// Reads the next line of a body. Lines behind the one at which something was said change nothing.
+/// Reads the next line of a body. Lines behind the one that settled its result, a fault or not, change nothing.
 pub(crate) fn pass<T: Stage>(
     alloc: Global,
     body: Body<T, T::Said>,

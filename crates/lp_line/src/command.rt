@@ -133,7 +133,7 @@ fn addressed_by(
     }
 }
 
-// Whether the text is a comment.
+// Whether the text is a comment: its first byte is `#`.
 fn begins_with_hash(text: &[u8]) -> bool
     ensures { result ≡ lines.begins_with_hash text.now }
 {
@@ -159,7 +159,8 @@ fn text_command(
     addressed_by(alloc, addressing, words.as_slice())
 }
 
-/// The command that a line between two commands is, or none where it is blank, a comment or the end of the input.
+/// The command that a line between two commands is. None where it is blank, a comment or the end of what may be read. A
+/// line that is too long is a bad command of session 0.
 #[tactic(auto, unfolding(spec_server::specs::Addressing::addressed_in))]
 pub fn read(
     alloc: Global,

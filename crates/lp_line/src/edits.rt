@@ -34,6 +34,7 @@ pub(crate) enum EditStop {
 impl From<LineFault> for EditStop {
     ghost from_gives = { λ fault stop. stop ≡ Fault fault };
 
+    // The stop at this fault of a line.
     fn from(fault: LineFault) -> Self {
         EditStop::Fault(fault)
     }
@@ -42,12 +43,13 @@ impl From<LineFault> for EditStop {
 impl From<AllocError> for EditStop {
     ghost from_gives = { λ _ stop. stop ≡ NoMemory };
 
+    // The stop for lack of memory.
     fn from(_: AllocError) -> Self {
         EditStop::NoMemory
     }
 }
 
-// The fault of a line with a word that is no number, or none of 127 bits.
+// The fault of a line by that of its word: `Number` where the word is no number, `Wide` where it is none of 127 bits.
 fn number_fault(fault: NumFault) -> LineFault
     ensures { result ≡ edit_command.number_fault fault }
 {
@@ -57,7 +59,7 @@ fn number_fault(fault: NumFault) -> LineFault
     }
 }
 
-// The number that the word is.
+// The number of 127 bits that the word is; a fault if it is none.
 #[tactic(auto, unfolding(spec_server::specs::EditCommand::number_in))]
 fn number_in(word: &Bytes) -> Result<Frac, LineFault>
     ensures { result ≡ edit_command.number_in word.now }
@@ -68,7 +70,7 @@ fn number_in(word: &Bytes) -> Result<Frac, LineFault>
     }
 }
 
-// The kind of row that the word names.
+// The kind of row that the word names; a fault if it names none.
 #[tactic(auto, unfolding(spec_server::specs::EditCommand::kind_in))]
 fn kind_in(word: &Bytes) -> Result<Kind, LineFault>
     ensures { result ≡ edit_command.kind_in word.now }
@@ -76,7 +78,7 @@ fn kind_in(word: &Bytes) -> Result<Kind, LineFault>
     look_up(word.as_slice(), &KINDS).ok_or(LineFault::Word)
 }
 
-// The sense that the word names.
+// The sense that the word names; a fault if it names none.
 #[tactic(auto, unfolding(spec_server::specs::EditCommand::sense_in))]
 fn sense_in(word: &Bytes) -> Result<Sense, LineFault>
     ensures { result ≡ edit_command.sense_in word.now }
@@ -84,7 +86,7 @@ fn sense_in(word: &Bytes) -> Result<Sense, LineFault>
     look_up(word.as_slice(), &SENSES).ok_or(LineFault::Word)
 }
 
-// The range that the word is, or none for `NONE`.
+// The range that the word is, or none for `NONE`. Another word that is no number of 127 bits is a fault.
 #[tactic(auto, unfolding(spec_server::specs::EditCommand::range_in))]
 fn range_in(word: &Bytes) -> Result<Option<Frac>, LineFault>
     ensures { result ≡ edit_command.range_in word.now }
@@ -95,7 +97,7 @@ fn range_in(word: &Bytes) -> Result<Option<Frac>, LineFault>
     Ok(Some(number_in(word)?))
 }
 
-// The number or infinity that the word is.
+// The number of 127 bits, or plus or minus infinity, that the word is; a fault if it is none.
 fn bound_in(word: &Bytes) -> Result<BoundValue<Frac>, LineFault>
     ensures { result ≡ edit_command.as_read (bound_answer (bound_of word.now)) }
 {
@@ -105,7 +107,8 @@ fn bound_in(word: &Bytes) -> Result<BoundValue<Frac>, LineFault>
     }
 }
 
-// The lower bound that the word is, none for minus infinity. Plus infinity is a fault.
+// The lower bound that the word is, none for minus infinity. Plus infinity is a fault, and so is a word that is no
+// bound.
 #[tactic(auto, using(crate::proofs::SmallBounds::small_bound), unfolding(spec_server::specs::EditCommand::lower_in))]
 fn lower_in(word: &Bytes) -> Result<Option<Frac>, LineFault>
     ensures value { result ≡ edit_command.lower_in word.now }
@@ -118,7 +121,8 @@ fn lower_in(word: &Bytes) -> Result<Option<Frac>, LineFault>
     }
 }
 
-// The upper bound that the word is, none for plus infinity. Minus infinity is a fault.
+// The upper bound that the word is, none for plus infinity. Minus infinity is a fault, and so is a word that is no
+// bound.
 #[tactic(auto, using(crate::proofs::SmallBounds::small_bound), unfolding(spec_server::specs::EditCommand::upper_in))]
 fn upper_in(word: &Bytes) -> Result<Option<Frac>, LineFault>
     ensures value { result ≡ edit_command.upper_in word.now }
@@ -138,7 +142,8 @@ fn name_in(alloc: Global, word: &Bytes) -> Result<Name, AllocError>
     Name::from_slice(alloc, word.as_slice())
 }
 
-// The pairs of a new column: the name of a row and a number, by turns. There is an even number of words.
+// The pairs of a new column: the name of a row and a number, by turns; or the fault of the first number that is none of
+// 127 bits. Of an odd number of words nothing is claimed.
 fn pairs_in(alloc: Global, words: &[Bytes]) -> Result<Pairs, EditStop>
     ensures { IfSome (edit_command.two_by_two words.now) (λ pairs. GivesWords (edit_command.numbers_in pairs) result) }
 {
@@ -152,7 +157,8 @@ fn pairs_in(alloc: Global, words: &[Bytes]) -> Result<Pairs, EditStop>
     Ok(pairs)
 }
 
-// The range of a new row of this kind. A free row may have none.
+// The range that the word gives a new row of this kind; a fault where the row is free, or the word is no number of 127
+// bits.
 #[tactic(auto, unfolding(spec_server::specs::EditCommand::new_range_in))]
 fn new_range_in(kind: Kind, word: &Bytes) -> Result<Frac, LineFault>
     ensures { result ≡ edit_command.new_range_in kind word.now }
@@ -163,7 +169,7 @@ fn new_range_in(kind: Kind, word: &Bytes) -> Result<Frac, LineFault>
     number_in(word)
 }
 
-// The edit that adds a row without a range.
+// The edit that adds a row without a range, by the words for its name, its kind and its right side; or a fault.
 fn plain_row(alloc: Global, name: &Bytes, kind: &Bytes, rhs: &Bytes) -> Result<Edit, EditStop>
     ensures { GivesWords (new_row.plain_row name.now kind.now rhs.now) result }
 {
@@ -177,7 +183,7 @@ fn plain_row(alloc: Global, name: &Bytes, kind: &Bytes, rhs: &Bytes) -> Result<E
     })
 }
 
-// The edit that adds a row with a range.
+// The edit that adds a row with a range, by the words for its name, kind, right side and range; or a fault.
 fn ranged_row(
     alloc: Global,
     name: &Bytes,
@@ -198,7 +204,7 @@ fn ranged_row(
     })
 }
 
-// The edit that adds the row which the words behind `ADDROW` say.
+// The edit that adds the row which the words behind `ADDROW` say; or a fault.
 #[tactic(auto, unfolding(spec_server::specs::EditCommand::edit_by))]
 fn add_row(alloc: Global, words: &[Bytes]) -> Result<Edit, EditStop>
     ensures { GivesWords (edit_command.edit_by word.AddRow words.now) result }
@@ -210,7 +216,7 @@ fn add_row(alloc: Global, words: &[Bytes]) -> Result<Edit, EditStop>
     }
 }
 
-// The edit that takes out the row which the word behind `DELROW` names.
+// The edit that takes out the row which the word behind `DELROW` names; a fault where there is not one word.
 #[tactic(auto, unfolding(spec_server::specs::EditCommand::edit_by))]
 fn delete_row(alloc: Global, words: &[Bytes]) -> Result<Edit, EditStop>
     ensures { GivesWords (edit_command.edit_by word.DelRow words.now) result }
@@ -221,7 +227,8 @@ fn delete_row(alloc: Global, words: &[Bytes]) -> Result<Edit, EditStop>
     Ok(Edit::DelRow(name_in(alloc, name)?))
 }
 
-// The edit that adds a column. A pair that lacks its number is found before any number is read.
+// The edit that adds a column, by the words for its name, its cost, and its pairs of a row and a number; or a fault. A
+// pair that lacks its number is the fault before any number is read.
 fn column_in(alloc: Global, name: &Bytes, cost: &Bytes, pairs: &[Bytes]) -> Result<Edit, EditStop>
     ensures { GivesWords (edit_command.column_in name.now cost.now (edit_command.two_by_two pairs.now)) result }
 {
@@ -234,7 +241,7 @@ fn column_in(alloc: Global, name: &Bytes, cost: &Bytes, pairs: &[Bytes]) -> Resu
     Ok(Edit::AddCol { name, cost, pairs })
 }
 
-// The edit that adds the column which the words behind `ADDCOL` say.
+// The edit that adds the column which the words behind `ADDCOL` say; or a fault.
 #[tactic(auto, unfolding(spec_server::specs::EditCommand::edit_by))]
 fn add_column(alloc: Global, words: &[Bytes]) -> Result<Edit, EditStop>
     ensures { GivesWords (edit_command.edit_by word.AddCol words.now) result }
@@ -245,7 +252,7 @@ fn add_column(alloc: Global, words: &[Bytes]) -> Result<Edit, EditStop>
     }
 }
 
-// The edit that takes out the column which the word behind `DELCOL` names.
+// The edit that takes out the column which the word behind `DELCOL` names; a fault where there is not one word.
 #[tactic(auto, unfolding(spec_server::specs::EditCommand::edit_by))]
 fn delete_column(alloc: Global, words: &[Bytes]) -> Result<Edit, EditStop>
     ensures { GivesWords (edit_command.edit_by word.DelCol words.now) result }
@@ -256,7 +263,7 @@ fn delete_column(alloc: Global, words: &[Bytes]) -> Result<Edit, EditStop>
     Ok(Edit::DelCol(name_in(alloc, name)?))
 }
 
-// The edit that gives a column a cost, by the words behind `SETCOST`.
+// The edit that gives a column a cost, by the words behind `SETCOST`; or a fault.
 #[tactic(auto, unfolding(spec_server::specs::EditCommand::edit_by))]
 fn set_cost(alloc: Global, words: &[Bytes]) -> Result<Edit, EditStop>
     ensures { GivesWords (edit_command.edit_by word.SetCost words.now) result }
@@ -268,7 +275,7 @@ fn set_cost(alloc: Global, words: &[Bytes]) -> Result<Edit, EditStop>
     Ok(Edit::SetCost(name_in(alloc, name)?, value))
 }
 
-// The edit that gives a column a coefficient in a row, by the words behind `SETCOEF`.
+// The edit that gives a column a coefficient in a row, by the words behind `SETCOEF`; or a fault.
 #[tactic(auto, unfolding(spec_server::specs::EditCommand::edit_by))]
 fn set_coefficient(alloc: Global, words: &[Bytes]) -> Result<Edit, EditStop>
     ensures { GivesWords (edit_command.edit_by word.SetCoef words.now) result }
@@ -282,7 +289,7 @@ fn set_coefficient(alloc: Global, words: &[Bytes]) -> Result<Edit, EditStop>
     Ok(Edit::SetCoef { row, column, value })
 }
 
-// The edit that gives a row a right side, by the words behind `SETRHS`.
+// The edit that gives a row a right side, by the words behind `SETRHS`; or a fault.
 #[tactic(auto, unfolding(spec_server::specs::EditCommand::edit_by))]
 fn set_right_side(alloc: Global, words: &[Bytes]) -> Result<Edit, EditStop>
     ensures { GivesWords (edit_command.edit_by word.SetRhs words.now) result }
@@ -294,7 +301,7 @@ fn set_right_side(alloc: Global, words: &[Bytes]) -> Result<Edit, EditStop>
     Ok(Edit::SetRhs(name_in(alloc, name)?, value))
 }
 
-// The edit that gives a row a range or takes it away, by the words behind `SETRANGE`.
+// The edit that gives a row a range or takes it away, by the words behind `SETRANGE`; or a fault.
 #[tactic(auto, unfolding(spec_server::specs::EditCommand::edit_by))]
 fn set_range(alloc: Global, words: &[Bytes]) -> Result<Edit, EditStop>
     ensures { GivesWords (edit_command.edit_by word.SetRange words.now) result }
@@ -306,7 +313,7 @@ fn set_range(alloc: Global, words: &[Bytes]) -> Result<Edit, EditStop>
     Ok(Edit::SetRange(name_in(alloc, name)?, range))
 }
 
-// The edit that gives a column bounds, by the words behind `SETBOUND`.
+// The edit that gives a column bounds, by the words behind `SETBOUND`; or a fault.
 #[tactic(auto, unfolding(spec_server::specs::EditCommand::edit_by))]
 fn set_bounds(alloc: Global, words: &[Bytes]) -> Result<Edit, EditStop>
     ensures { GivesWords (edit_command.edit_by word.SetBound words.now) result }
@@ -321,7 +328,7 @@ fn set_bounds(alloc: Global, words: &[Bytes]) -> Result<Edit, EditStop>
     Ok(Edit::SetBound { column, bounds })
 }
 
-// The edit that gives the objective a sense, by the word behind `SENSE`.
+// The edit that gives the objective a sense, by the word behind `SENSE`; or a fault.
 #[tactic(auto, unfolding(spec_server::specs::EditCommand::edit_by))]
 fn set_sense(words: &[Bytes]) -> Result<Edit, EditStop>
     ensures { GivesWords (edit_command.edit_by word.Sense words.now) result }
@@ -332,7 +339,7 @@ fn set_sense(words: &[Bytes]) -> Result<Edit, EditStop>
     Ok(Edit::SetSense(sense_in(sense)?))
 }
 
-/// The edit that the words after a command word give: by their count, and then from left to right.
+/// The edit that the words after a command word give, or the first fault: by their count, and then from left to right.
 pub(crate) fn edit_by(alloc: Global, which: EditWord, words: &[Bytes]) -> Result<Edit, EditStop>
     ensures { GivesWords (edit_command.edit_by which words.now) result }
 {

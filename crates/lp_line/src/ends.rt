@@ -7,7 +7,7 @@ use lp_base::{Line, Texts, are_same, is_blank, words};
 use lp_certificate::is_end;
 use std::alloc::{AllocError, Global};
 
-// Whether the line is a data card of a text. An empty line counts as one.
+// Whether the first byte of a line is a blank, as that of a data card is. It is so of an empty line too.
 fn begins_with_blank(text: &[u8]) -> bool
     ensures { result ≡ cards.begins_with_blank text.now }
 {
@@ -24,7 +24,7 @@ fn begins_with_word(words: &Texts, word: &[u8]) -> bool
     !words.is_empty() && are_same(words.get(0).as_slice(), word)
 }
 
-/// Whether a line is the last one of a text of a model.
+/// Whether a line is the last one of a text of a model: it begins in column 1, and its first word is `ENDATA`.
 #[tactic(auto, unfolding(spec_server::specs::Script::ends_text))]
 pub(crate) fn ends_text(alloc: Global, next: &Line) -> Result<bool, AllocError>
     ensures { IfOk result (λ ends. ends ≡ script.ends_text next.now) }
@@ -40,7 +40,7 @@ pub(crate) fn ends_text(alloc: Global, next: &Line) -> Result<bool, AllocError>
     }
 }
 
-/// Whether a line is the last one of a certificate.
+/// Whether a line is the last one of a certificate: its only word is `END`.
 #[tactic(auto, unfolding(spec_server::specs::Script::ends_certificate))]
 pub(crate) fn ends_certificate(alloc: Global, next: &Line) -> Result<bool, AllocError>
     ensures { IfOk result (λ ends. ends ≡ script.ends_certificate next.now) }

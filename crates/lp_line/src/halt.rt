@@ -24,6 +24,7 @@ impl From<LineStop> for Halt {
 
     ghost from_gives = { λ e halt. halt ≡ halt_of e };
 
+    // The halt of a command whose input could not be read: by a fault of the input, or for lack of memory.
     fn from(stop: LineStop) -> Self {
         match stop {
             LineStop::Read => Halt::Read,
@@ -35,6 +36,7 @@ impl From<LineStop> for Halt {
 impl From<WriteFault> for Halt {
     ghost from_gives = { λ _ halt. halt ≡ Write };
 
+    // The halt of a command whose output could not be written.
     fn from(_: WriteFault) -> Self {
         Halt::Write
     }
@@ -43,6 +45,7 @@ impl From<WriteFault> for Halt {
 impl From<AllocError> for Halt {
     ghost from_gives = { λ _ halt. halt ≡ NoMemory };
 
+    // The halt of a command for lack of memory.
     fn from(_: AllocError) -> Self {
         Halt::NoMemory
     }

@@ -43,7 +43,8 @@ pub enum Heard<R> {
     Over,
 }
 
-/// Reads the lines up to the one at which something is said.
+/// Feeds a stage lines of the input up to the one at which it says something, and gives that. `Over` where the input is
+/// too long.
 pub fn hear<S: Source, T: Stage>(
     alloc: Global,
     first: T,

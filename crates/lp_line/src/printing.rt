@@ -10,7 +10,7 @@ use lp_base::{Bytes, Texts};
 use spec_server::Addressing;
 use std::alloc::{AllocError, Global};
 
-// How many lines the text has, each of which ends in a line feed.
+// How many line feeds a text has, so how many lines that end in one.
 #[tactic(auto, unfolding(spec_server::specs::Output::count_of_lines))]
 fn count_of_lines(text: &[u8]) -> usize
     ensures { result ≡ output.count_of_lines text.now }
@@ -93,7 +93,7 @@ fn push_lines_behind(reply: &Reply, to: &mut Bytes) -> Result<(), AllocError>
     }
 }
 
-// Adds the session's number and a space to a text, where lines name sessions.
+// Adds the session's number and a space to a text, if lines name sessions; else nothing.
 fn push_front(
     alloc: Global,
     addressing: Addressing,
@@ -143,7 +143,8 @@ pub fn print(
     to.extend(lines.as_slice())
 }
 
-/// Adds the line that the commands `check` and `solve` end with to a text. Where memory runs out, `to` stays as it was.
+/// Adds the line of a reply, without a session, to a text, as commands that read a text write it. Where memory runs
+/// out, `to` stays as it was.
 #[tactic(auto, unfolding(spec_server::specs::Output::check_line))]
 pub fn print_said(alloc: Global, reply: &Reply, to: &mut Bytes) -> Result<(), AllocError>
     ensures ok { OnOk result (to.new ≡ to.old ++ output.check_line reply.now) }

@@ -11,7 +11,7 @@ use spec_mps::{Code, MpsFault};
 use spec_server::LineFault;
 use std::alloc::{AllocError, Global};
 
-// The number and the word of a line's fault.
+// The number and the word that replies have for a line's fault.
 fn line_fault_name(fault: LineFault) -> &'static [u8]
     ensures { result.now ≡ output.line_fault_text fault }
 {
@@ -85,7 +85,7 @@ fn push_named(words: &[u8], name: &[u8], to: &mut Bytes) -> Result<(), AllocErro
     to.extend(name)
 }
 
-/// Adds a refusal to a text.
+/// Adds to a text the number of a refusal, its word, and the name, line or limit that it is about, if there is one.
 #[tactic(auto, unfolding(spec_server::specs::Output::repeated_text, spec_server::specs::Output::item_text))]
 pub(crate) fn push_refusal(
     alloc: Global,

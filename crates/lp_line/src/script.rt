@@ -64,7 +64,7 @@ impl Stage for ScriptStage {
     }
 }
 
-// How a script ends whose input ends in this state of the reading: between two commands, or cut off in a body.
+// How a script ends whose input ends in this state of the reading: well between two commands, or `Cut` in a body.
 fn end_of(stage: &ScriptStage) -> Result<Option<Asked>, Halt>
     ensures { IsEndOf stage.now result }
 {
@@ -115,7 +115,7 @@ fn asked(session: u32, ask: Ask) -> ScriptStep
     Step::Says(Ok(Some(Asked { session, ask })))
 }
 
-// Reads a line between two commands.
+// Reads a line between two commands: it completes a request, begins the body of one, or is skipped.
 fn line_between(
     alloc: Global,
     addressing: Addressing,
@@ -130,7 +130,7 @@ fn line_between(
     }
 }
 
-// The request that what a model's text says completes.
+// The request of a session that has read a model's text: with the model, or with the text's fault.
 fn ask_of_text(said: TextSaid) -> Ask
     ensures { (verdict : Verdict) → verdict_said verdict ≡ said → ask_of_verdict verdict ≡ result }
 {
@@ -140,7 +140,7 @@ fn ask_of_text(said: TextSaid) -> Ask
     }
 }
 
-// The request that what a certificate's text says completes.
+// The request of a session that has read a certificate: with the certificate, or with the line that does not fit.
 fn ask_of_certificate(said: CertificateSaid) -> Ask
     ensures { (judgement : Judgement) → judgement_said judgement ≡ said → ask_of_judgement judgement ≡ result }
 {
@@ -150,7 +150,7 @@ fn ask_of_certificate(said: CertificateSaid) -> Ask
     }
 }
 
-// Reads a line of a model's text.
+// Reads a line of a model's text: the body goes on, or its last line completes the request.
 fn line_of_text(
     alloc: Global,
     session: u32,
@@ -173,7 +173,7 @@ fn line_of_text(
     Ok(asked(session, ask_of_text(said)))
 }
 
-// Reads a line of a certificate's text.
+// Reads a line of a certificate's text: the body goes on, or its last line completes the request.
 fn line_of_certificate(
     alloc: Global,
     session: u32,

@@ -15,7 +15,7 @@ use std::alloc::{AllocError, Global};
 
 type End = spec_check::SolveEnd<Frac, Fracs, Basis>;
 
-/// The reply to a solve within a budget.
+/// The reply to a solve within a budget: its answer, its overflow, or that the budget is spent.
 pub fn answer_of(budget: u32, solved: &End) -> Reply
     ensures { result ≡ machine.answer_of budget solved.now }
 {
@@ -26,7 +26,7 @@ pub fn answer_of(budget: u32, solved: &End) -> Reply
     }
 }
 
-/// The pivots and flips that a solve took to its answer, if it has one.
+/// The pivots and flips that a solve took to its answer; none if it has no answer.
 pub fn pivots_of(solved: &End) -> Option<u64>
     ensures { result ≡ machine.pivots_of_solved solved.now }
 {

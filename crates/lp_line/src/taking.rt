@@ -12,7 +12,7 @@ use spec_server::Addressing;
 use std::alloc::Global;
 
 /// Reads the lines up to the one that completes the next request. There is none where the input ends between two
-/// commands.
+/// commands. An input that ends inside a body is `Halt::Cut`, and one that is too long `Halt::Over`.
 pub fn take<S: Source>(
     alloc: Global,
     addressing: Addressing,

@@ -47,7 +47,7 @@ fn answer_lines(alloc: Global, model: &Model, answer: &ExactAnswer) -> Result<Te
     Ok(lines)
 }
 
-// The line that an exact solve found no answer.
+// The one line, `OPEN`, which says that an exact solve found no answer.
 fn open_lines(alloc: Global) -> Result<Texts, AllocError>
     ensures { (m : model) → IfOk result (λ lines. lines ≡ wide.wide_lines m ends.Open) }
 {

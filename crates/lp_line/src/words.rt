@@ -23,7 +23,8 @@ fn begins_with_zero(text: &[u8]) -> bool
     }
 }
 
-/// The number that the text is, from 1 to `last`, without zeros in front and with at most `digits` digits.
+/// The number that the text is, from 1 to `last`, without zeros in front and with at most `digits` digits. None if it
+/// is no such number.
 pub fn number_to(last: u32, digits: usize, text: &[u8]) -> Option<u32>
     requires { last ≤ 1000000 }
     ensures { result ≡ commands.number_to last digits text.now }
@@ -44,7 +45,7 @@ pub fn number_to(last: u32, digits: usize, text: &[u8]) -> Option<u32>
     Some(number)
 }
 
-/// The number of a session that the word is, from 1 to 64.
+/// The number of a session that the word is, from 1 to 64; none for another word.
 #[tactic(auto, unfolding(spec_server::specs::Command::session_of))]
 pub(crate) fn session_of(word: &[u8]) -> Option<u32>
     ensures { result ≡ commands.session_of word.now }
@@ -52,7 +53,7 @@ pub(crate) fn session_of(word: &[u8]) -> Option<u32>
     number_to(64, 2, word)
 }
 
-/// The budget that the word is, from 1 to 1,000,000 pivots and flips.
+/// The budget that the word is, from 1 to 1,000,000 pivots and flips; none for another word.
 #[tactic(auto, unfolding(spec_server::specs::Command::budget_of))]
 pub(crate) fn budget_of(word: &[u8]) -> Option<u32>
     ensures { result ≡ commands.budget_of word.now }
@@ -62,7 +63,7 @@ pub(crate) fn budget_of(word: &[u8]) -> Option<u32>
 
 const FORMS: [(&[u8], Style); 2] = [(b"FREE", Style::Free), (b"FIXED", Style::Fixed)];
 
-/// The form that a word names.
+/// The form of a text, free or fixed, that a word names; none for another word.
 #[tactic(auto, unfolding(spec_server::specs::Command::style_of))]
 pub(crate) fn style_of(word: &[u8]) -> Option<Style>
     ensures { result ≡ commands.style_of word.now }
@@ -93,7 +94,7 @@ const COMMAND_WORDS: [(&[u8], CommandWord); 19] = [
     (b"SENSE", CommandWord::Edit(EditWord::Sense)),
 ];
 
-/// The command word that a word is.
+/// The command word that a word is; none for another word.
 #[tactic(auto, unfolding(spec_server::specs::Command::command_word_of))]
 pub(crate) fn command_word_of(word: &[u8]) -> Option<CommandWord>
     ensures { result ≡ commands.command_word_of word.now }
