@@ -1,12 +1,15 @@
 -- The parts of a session's step over a board are a whole step.
 --
 -- `found_fits_form`: what a look for a form's shape finds has that shape and is well formed.
--- `begins_with`: a step that begins so and goes on begins with the form with which it goes on.
--- `works_with`: a step that works so and goes on has its words to publish, well formed and of an end of its model.
+-- `begins_with`: where a step begins with `begun`, and `begun` goes on with a form, the step begins by going on with
+--   that form.
+-- `works_with`: where the work of a step goes on with words that are pending, these are well formed, and of an end of
+--   the session's model.
 -- `replies_so`: a step that breaks off when it begins is a whole step without reads.
 -- `rests_fit`: a session that awaits nothing keeps neither a form nor an answer to fit.
--- `calls_look`: one look is all that a step calls.
--- `calls_both`: a look and a publication of well-formed words are all that a step calls.
+-- `calls_look`: one look, after which the pass is consistent, is what a step may call.
+-- `calls_both`: a look, after which the pass is consistent, and then a publication of well-formed words are what a step
+--   may call.
 use Rattle.std.proofs.Common.{◌≡◌, List, [], ◌++◌, Option, IfSome, ControlFlow, Continue, Break}
 use Rattle.std.proofs.Common.{refl, sym, ap, ◌∙◌, subst}
 use Rattle.std.proofs.Common.{inl, inr, append-nil}
@@ -40,7 +43,7 @@ places_kept shape v w (NoneReady c) d = ap (λ (x : View). x.places) d.view
 places_kept shape v w (Found k xs) f =
     ap (λ (x : View). x.places) f.finds.view ∙ ap (λ (x : View). x.places) f.down.view
 
--- what it finds are well-formed words of the shape
+-- the words that a look for a shape finds, if any, are well formed and have that shape
 look_fits : (shape : Words) (v w : View) (look : Look) → Looks shape v look w →
     IfSome (looked_by look) (λ place. IsWellFormed place.words × (front place.words ≡ shape))
 look_fits shape v w (NoneReady c) d = tt
@@ -84,16 +87,19 @@ replies_so old asked begun replied new v h is = record {
 module _ (old : State) (asked : ExactAsk) (form : Form) (middle : State)
     (begins : BeginsSo old asked (Continue form) middle) (v : View) (shape : Words) (is_shape : shape ≡ shape_of form)
     (w : View) (look : Look) (called : Looks shape v look w) (found : Looked) (told : found ≡ looked_by look) where
+  -- the look adds its reads to those of the pass
   made : AddsLook shape look v w
   made = looks_read shape v w look called
 
+  -- the reads that the look adds are those of a look that found this
   look_reads : LookReads shape made.made found
   look_reads = subst (LookReads shape made.made) (sym told) made.reads
 
+  -- the request begins with a look for this shape
   begins_so : step.Begins old asked (step.Looks shape)
   begins_so = subst (λ shape. step.Begins old asked (step.Looks shape)) (sym is_shape) begins.0
 
-  -- nothing is published
+  -- where a solve breaks off with a reply after its look, the look and the solve are the whole step, by this pass
   pub ends_so : (worked : ControlFlow ExactReply Pending) (replied : ExactReply) (new : State) →
       WorksSo middle found worked new → worked ≡ Break replied → AddsStep old asked v replied new w
   ends_so worked replied new works is = record {
@@ -116,16 +122,20 @@ module _ (old : State) (asked : ExactAsk) (form : Form) (middle : State)
 
   module _ (pending : Pending) (new : State) (publishes : PublishesSo middle found pending new) (u : View) (put : Put)
       (puts : Puts w pending.words put u) where
+    -- the publication adds its reads to those of the pass
     tried : AddsPut pending.words put w u
     tried = puts_read pending.words w u put puts
 
+    -- the reads that the publication adds are those of a put of these words among the board's places
     put_reads : PutReads v.places pending.words put tried.made
     put_reads =
         subst (λ places. PutReads places pending.words put tried.made) (places_kept shape v w look called) tried.reads
 
+    -- the session's state is the old one while its words are published
     stays : new ≡ old
     stays = publishes.kept ∙ begins.1
 
+    -- a step that begins, looks, works and publishes words adds a step with the reads of the look and of the put
     pub publishes_so : (replied : ExactReply) (third : State) → replied ≡ step.answered new pending.end →
         third ≡ step.after_put new (pending_of pending) put → AddsStep old asked v replied third u
     publishes_so replied third answer kept = record {

@@ -14,7 +14,8 @@ use Rattle.spec_server.specs.Machine.{ExactReply, State, Solves, due, solve_due}
 use Rattle.spec_server.specs.Step.{Answers, Begins, answered, with_answer, solve_begun, BegunBy}
 use Rattle.lp_solve.specs.Formless.{HasNoForm}
 
--- as the cold solve does, with the budget of the session
+-- where a session's model has no form, a solve answers at once with the end of a cold solve within the session's
+-- budget, and publishes nothing
 pub formless_begins : (old : State) (m : Model) (solved : SolveEnd) (replied : ExactReply) (new : State) →
     old.model ≡ Some m → HasNoForm m → IsSolved m old.budget None solved → replied ≡ answered old solved.end →
     new ≡ with_answer old solved.end how.Cold publication.Nothing →

@@ -36,6 +36,7 @@ found_fits f found place basis is fits e b =
 
 -- ---- the model that is held is solved, from what was found
 module _ {E : Type 0} (model : Option Model) (m : Model) (budget kept : ℕ) (found : Looked) where
+  -- where a place was found, a solve of the session's model from the place's basis is a solve by what was found
   pub solved_found : (place : Found Words) (basis : List Status) (result : Result (ExactSolveEnd × Route) E) → model ≡ Some m →
       budget ≡ kept → found ≡ Some place → basis ≡ unpacked place.words →
       IfOk result (λ s. IsSolved m budget (Some basis) (solve_end s)) →
@@ -44,6 +45,7 @@ module _ {E : Type 0} (model : Option Model) (m : Model) (budget kept : ℕ) (fo
       subst (λ model. IfOk result (λ s. IsSolvedBy model kept found (solve_end s))) (sym held)
       (subst₂ (λ budget handed. IfOk result (λ s. IsSolved m budget handed (solve_end s))) same (ap Some b ∙ sym (ap handed_by is)) h)
 
+  -- where nothing was found, a solve of the session's model from no basis is a solve by what was found
   pub solved_nothing : (result : Result (ExactSolveEnd × Route) E) → model ≡ Some m → budget ≡ kept → found ≡ None →
       IfOk result (λ s. IsSolved m budget None (solve_end s)) → IfOk result (λ s. IsSolvedBy model kept found (solve_end s))
   solved_nothing result held same is h =

@@ -13,23 +13,24 @@ use Rattle.basis_board.specs.Moments.{NotesMore, WereTrue}
 use Rattle.basis_board.specs.Rule.{Consistent}
 use Rattle.basis_board.specs.PassReads.{reads_of}
 
--- the pass reads what the step does, and nothing else
+-- the session takes one step of the machine for this request, and the reads of the pass grow by those of the step
 pub record AddsStep (before : State) (asked : ExactAsk) (old : View) (replied : ExactReply) (after : State)
     (new : View) : Type 0 where
   pub reads : List ExactRead
   pub step : AloneStep old.places before asked reads replied after
   pub all : reads_of new ≡ reads_of old ++ reads
 
--- what the pass has noted since comes after all that it had noted, and was so when it was noted
+-- the pass has only noted further reads, later than its old ones; if those were true when they were noted,
+-- so are all now
 pub record NotesOn (old new : Known) : Type 0 where
   pub notes : NotesMore old.moments new.moments
   pub were_true : WereTrue old.moments old.view.reads → WereTrue new.moments new.view.reads
 
--- at most one publication, of well-formed words
+-- from `old` to `new` the pass made no call, or one publication of well-formed words
 abbrev pub MayPut : View → View → Type 0
 MayPut old new = (new ≡ old) ⊎ ((words : Words) × (put : Put) × IsWellFormed words × Puts old words put new)
 
--- no call, or one look and then at most one publication
+-- from `old` to `new` the pass made no call, or one look and then at most one publication
 abbrev pub StepCalls : View → View → Type 0
 StepCalls old new =
     (new ≡ old)

@@ -111,7 +111,8 @@ impl Holding {
         }
     }
 
-    // The edit of the model. One that is done forgets the last answer.
+    // Applies an edit to the model, and replies. One that is done forgets the last answer. Without a model, where the
+    // edit is refused or memory runs out, all is as it was, and the reply says so.
     fn change(&mut self, alloc: Global, edit: Edit) -> Reply
         ensures { step.Begins self.old (asks.Plain (commands.Change edit)) (step.Answers result self.new) }
     {
@@ -127,7 +128,8 @@ impl Holding {
         }
     }
 
-    // The form of the model. A model without one is answered as the cold solve does.
+    // Begins a solve: goes on with the form of the model. A model without one is answered at once, as the cold solve
+    // does. Without a model the reply is a refusal, and `Memory` where memory runs out.
     fn begin_solve(&mut self, alloc: Global) -> ControlFlow<Reply, Form>
         ensures { BeginsSo self.old (asks.Plain commands.Solve) result self.new }
     {
@@ -173,8 +175,9 @@ impl Holding {
         }
     }
 
-    /// Keeps what such a solve ended with, and breaks off with the reply. It goes on with an answer whose basis is to be
-    /// published before it is kept.
+    /// Keeps what a solve with what was found ended with, and breaks off with the reply. Where an optimum has another
+    /// basis than the one found, it keeps nothing yet, and goes on with the answer, whose basis is to be published
+    /// first.
     pub(crate) fn conclude(
         &mut self,
         form: &Form,
@@ -197,7 +200,8 @@ impl Holding {
         }
     }
 
-    /// Solves with what was found, and concludes. If memory runs out the reply is `Memory`, and all is as it was.
+    /// Solves the model with what was found, and keeps the answer and breaks off with the reply, or goes on with an
+    /// answer whose basis is to be published. If memory runs out the reply is `Memory`, and all is as it was.
     pub(crate) fn work(
         &mut self,
         alloc: Global,
@@ -229,7 +233,7 @@ impl Holding {
         answer
     }
 
-    /// The pivots and flips of the last answer, where it has them.
+    /// The pivots and flips of the last answer; none where there is no last answer, or its solve ended without one.
     pub(crate) fn pivots(&self) -> Option<u64>
         ensures { result ≡ option_and_then (λ last. machine.pivots_of_solved last.solved) self.now.last }
     {
@@ -239,7 +243,8 @@ impl Holding {
         }
     }
 
-    // The lines of the last answer's certificate.
+    // The reply with the lines of the last answer's certificate, or a refusal where there is no last answer. A solve
+    // that ended without an answer has no lines. If memory runs out the reply is `Memory`.
     fn certify(&self, alloc: Global) -> Reply
         ensures { (result ≡ machine.cert_reply self.now.model self.now.last) ⊎ (result ≡ replies.Memory) }
     {
@@ -256,7 +261,8 @@ impl Holding {
         }
     }
 
-    // The lines of an exact solve of the model, of which nothing is kept.
+    // The reply with the lines of an exact solve of the model, of which nothing is kept; a refusal without a model, and
+    // `Memory` where memory runs out.
     fn widen(&self, alloc: Global) -> Reply
         ensures { step.Begins self.now (asks.Plain commands.Wide) (step.Answers result self.now) }
     {
@@ -274,7 +280,8 @@ impl Holding {
         }
     }
 
-    // How the last answer was found, its pivots, and what became of its basis.
+    // The reply that says how the last answer was found, its pivots, and what became of its basis; a refusal where
+    // there is no last answer.
     fn how(&self) -> Reply
         ensures { result ≡ machine.how_reply self.now.last }
     {
@@ -288,7 +295,8 @@ impl Holding {
         }
     }
 
-    // The text of the model in the style. The session is left as it was.
+    // The reply with the text of the model in this style, or a refusal: without a model, or of an item that is too wide
+    // for fixed form. If memory runs out the reply is `Memory`. The session is left as it was.
     fn write(&self, alloc: Global, style: Style) -> Reply
         ensures { (result ≡ machine.write_reply self.now.model style) ⊎ (result ≡ replies.Memory) }
     {
@@ -308,7 +316,8 @@ impl Holding {
         }
     }
 
-    // The verdict on a certificate of the model. The session is left as it was.
+    // The reply with the verdict on a certificate of the model, or a refusal where there is no model or the
+    // certificate's names do not fit it; `Memory` where memory runs out. The session is left as it was.
     fn check(&self, alloc: Global, raw: &RawCertificate) -> Reply
         ensures { (result ≡ machine.check_reply self.now.model raw.now) ⊎ (result ≡ replies.Memory) }
     {

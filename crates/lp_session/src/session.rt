@@ -37,6 +37,7 @@ impl Model for Session {
 }
 
 impl Drop for Session {
+    // Frees what the session holds and what it awaits.
     fn drop(self) {
         let Session { holding, awaited } = self;
         drop(holding);
@@ -45,7 +46,7 @@ impl Drop for Session {
 }
 
 impl Session {
-    /// The pivots and flips of the last answer, where it has them.
+    /// The pivots and flips of the last answer; none where there is no last answer, or its solve ended without one.
     pub fn pivots(&self) -> Option<u64>
         ensures { result ≡ option_and_then (λ last. pivots_of_solved last.solved) (self.now.state).last }
     {
@@ -62,7 +63,8 @@ impl Session {
         }
     }
 
-    /// Begins a request. If memory runs out the reply is `Memory`, and the session holds what it did.
+    /// Begins a request: the session replies, or it is to be told what a look for the shape of its model's form finds.
+    /// If memory runs out the reply is `Memory`, and the session holds what it did.
     pub fn start(&mut self, alloc: Global, ask: Ask) -> Started<Reply>
         requires { self.old.awaits ≡ Nothing }
         ensures { StartFits self.old.state ask result self.new }
@@ -77,7 +79,8 @@ impl Session {
         }
     }
 
-    /// Goes on with what was found. If memory runs out the reply is `Memory`, and the session holds what it did.
+    /// Solves with what a look found, and replies, or gives the words of the final basis, which are to be published. If
+    /// memory runs out the reply is `Memory`, and the session holds what it did.
     pub fn found(&mut self, alloc: Global, found: Option<Found<BasisWords>>) -> Next<Reply>
         requires { MayBeFound self.old.awaits found }
         ensures { NextFits self.old.state found result self.new }
@@ -97,7 +100,8 @@ impl Session {
         }
     }
 
-    /// Keeps the end of the solve, once it is known whether the words of its basis got a slot of the board.
+    /// Keeps the end of the solve, once it is known whether the words of its basis got a slot of the board, and replies
+    /// with it.
     pub fn put(&mut self, put: Put) -> Reply
         requires { IsPutAwaited self.old.awaits }
         ensures { PutFits self.old.state self.old.awaits put result self.new }
@@ -110,7 +114,9 @@ impl Session {
             .keep(pending.end, pending.how, Publication::Tried(put))
     }
 
-    /// Replies to a request, over a board that others may share, by a pass of the board. Any session may take any pass.
+    /// Replies to a request, over a board that others may share, by a pass of the board. A solve of a model
+    /// with a form looks once for a basis, and then publishes at most once; other requests leave the board alone. Any
+    /// session may take any pass.
     pub fn step(&mut self, alloc: Global, board: &Board, pass: &mut Pass, ask: Ask) -> Reply
         requires rests { self.old.awaits ≡ Nothing }
         requires board { pass.old.board ≡ id_of board.now }

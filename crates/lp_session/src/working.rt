@@ -10,7 +10,7 @@ use lp_solve::{End, Route};
 use spec_board::{BasisWords, Found};
 use spec_server::How;
 
-// How an answer was found.
+// How an answer was found: cold, from the basis of the place that was found, or cold after that basis was given up.
 pub(crate) fn how_by(found: Option<Found<BasisWords>>, route: Route) -> How
     ensures { result ≡ step.how_by found route }
 {
@@ -24,7 +24,7 @@ pub(crate) fn how_by(found: Option<Found<BasisWords>>, route: Route) -> How
     }
 }
 
-// Whether these are the words that were found.
+// Whether these words are those of the basis that was found, if one was.
 pub(crate) fn is_found(found: Option<Found<BasisWords>>, words: &BasisWords) -> bool
     ensures { result ≡ step.is_found found words.now }
 {
@@ -34,7 +34,7 @@ pub(crate) fn is_found(found: Option<Found<BasisWords>>, words: &BasisWords) -> 
     }
 }
 
-// The words of the basis of an optimum.
+// The words of the basis of an optimum; none at another end, or at an optimum without a basis.
 pub(crate) fn words_of_end(form: &Form, end: &End) -> Option<BasisWords>
     requires { LeavesBasis form.now end.now }
     ensures value { result ≡ step.words_of_end form.now end.now }
