@@ -133,10 +133,12 @@ where_false : (t : Bool) (x y : Left) → t ≡ false → y ≡ cond t x y
 where_false t x y e = sym (ap (λ b. cond b x y) e)
 
 module _ (limit me : ℕ) (now : List ExactPlace) where
+  -- a server of so many sessions, with `limit` places
   abbrev server : ℕ → Server
   server sessions = record { sessions = sessions; places = limit }
 
   -- ---- asks
+  -- an idle session may take a request to which it replies at once, and is idle again
   pub reply_fits : (old : Kept) (asked : ExactAsk) (replied : ExactReply) (new : State) → old.step ≡ Idle →
       Begins old.state asked (parts.Answers replied new) →
       ActFits limit me old now (act.Ask asked) (Replied me replied) (record { state = new; step = Idle }) now
@@ -151,6 +153,7 @@ module _ (limit me : ℕ) (now : List ExactPlace) where
       )
       (record { state_so = refl; step_so = refl }) refl refl
 
+  -- an idle session may take a request that begins with a look, and is then about to count the places for it
   pub look_fits : (old : Kept) (asked : ExactAsk) (shape : List ℕ) → old.step ≡ Idle →
       Begins old.state asked (Looks shape) →
       ActFits limit me old now (act.Ask asked) Quiet (record { state = old.state; step = Counts shape }) now
@@ -163,6 +166,7 @@ module _ (limit me : ℕ) (now : List ExactPlace) where
 
   -- ---- looks
 
+  -- where a look goes on from k places in the definition, without its reads, is where it goes on in the code
   shown_looking : (shape : List ℕ) (k : ℕ) (reads : List ExactRead) (aw : Awaits) →
       shown_step (looking shape k reads) ≡ step_of (looking_at shape k) aw
   shown_looking shape zero reads aw = refl
@@ -172,6 +176,7 @@ module _ (limit me : ℕ) (now : List ExactPlace) where
       (ap (λ t. step_of (cond t (stage.Solving None) (stage.Sees shape (suc k - 1))) aw)
       (ne_eqb (suc k) 0 (λ z. omega arith)))
 
+  -- a session whose look begins may count the claimed places, and then goes on with the newest of them
   pub count_fits : (old : Kept) (shape : List ℕ) (aw : Awaits) → old.step ≡ Counts shape →
       ActFits limit me old now act.Count Quiet
       (record { state = old.state; step = step_of (looking_at shape (length now)) aw }) now
@@ -186,7 +191,8 @@ module _ (limit me : ℕ) (now : List ExactPlace) where
             shown_looking shape (length now) (read.Count (length now) ∷ []) aw;
       }) refl refl
 
-  -- a place that is done, by whether it has the shape
+  -- after a look's read of a done place k, the stage of the definition without its reads is that of the code, by
+  -- whether the place has the shape
   shown_seen : (shape payload : List ℕ) (k : ℕ) (reads : List ExactRead) (aw : Awaits) (t : Bool) →
       has_shape shape payload ≡ t →
       shown_step (cond (has_shape shape (cond t payload (front payload)))
@@ -201,6 +207,8 @@ module _ (limit me : ℕ) (now : List ExactPlace) where
       (looking shape k reads))) (ap (λ ws. same ws shape) (front_front payload) ∙ e)
       ∙ shown_looking shape k reads aw
 
+  -- where a look goes on after its read of place k in the definition, without its reads, is where it goes on in the
+  -- code
   shown_place : (shape : List ℕ) (k : ℕ) (reads : List ExactRead) (aw : Awaits) (p : Option ExactPlace) →
       shown_step (seen_stage shape k (reads ++ read_of shape k p ∷ []) (read_of shape k p)) ≡ step_of
       (seen_at shape k (looks.words_in p)) aw
@@ -209,6 +217,7 @@ module _ (limit me : ℕ) (now : List ExactPlace) where
   shown_place shape k reads aw (Some (place.Done payload)) =
       shown_seen shape payload k (reads ++ read.Seen k (shown shape payload) ∷ []) aw (has_shape shape payload) refl
 
+  -- a session whose look has come to place k may read this place, and ends its look there or goes on below it
   pub see_fits : (old : Kept) (shape : List ℕ) (k j : ℕ) (aw : Awaits) → old.step ≡ Sees shape k → j ≡ k →
       ActFits limit me old now (act.See j) Quiet
       (record { state = old.state; step = step_of (seen_at shape k (words_at now k)) aw }) now
@@ -222,6 +231,7 @@ module _ (limit me : ℕ) (now : List ExactPlace) where
 
   -- ---- solves
 
+  -- a session whose look has ended may solve and reply, and is then idle
   pub ends_fit : (old : Kept) (found : Looked) (replied : ExactReply) (new : State) → old.step ≡ Solving found →
       Works old.state found (Ends replied new) →
       ActFits limit me old now act.Work (Replied me replied) (record { state = new; step = Idle }) now
@@ -232,6 +242,7 @@ module _ (limit me : ℕ) (now : List ExactPlace) where
       (Ends replied new, subst (λ x. Works x found (Ends replied new)) (sym keeps.state_so) works, refl)
       (record { state_so = refl; step_so = refl }) refl refl
 
+  -- a session whose look has ended may solve with words to publish, and is then about to count the places for them
   pub publishes_fit : (old : Kept) (found : Looked) (pending : Pending) → old.step ≡ Solving found →
       Works old.state found (Publishes pending) →
       ActFits limit me old now act.Work Quiet (record { state = old.state; step = Puts pending }) now
@@ -244,6 +255,8 @@ module _ (limit me : ℕ) (now : List ExactPlace) where
 
   -- ---- puts
 
+  -- a session that is to publish and counts as many claimed places as there are places replies, and keeps its answer
+  -- with `Full`
   pub full_fits : (old : Kept) (pending : Pending) → old.step ≡ Puts pending → length now ≡ limit →
       ActFits limit me old now act.Count (Replied me (answered old.state pending.end))
       (record { state = after_put old.state pending (Full (length now)); step = Idle }) now
@@ -256,6 +269,8 @@ module _ (limit me : ℕ) (now : List ExactPlace) where
       (record { state_so = ap (λ x. after_put x pending (Full (length now))) keeps.state_so; step_so = refl }) refl
       (ap (λ x. Replied me (answered x pending.end)) (sym keeps.state_so))
 
+  -- a session that is to publish and counts fewer claimed places than there are places is then about to claim the next
+  -- one
   pub claims_fit : (old : Kept) (pending : Pending) → old.step ≡ Puts pending → (length now ≡ limit → ⊥) →
       ActFits limit me old now act.Count Quiet (record { state = old.state; step = Claims pending (length now) }) now
   claims_fit old pending is room sessions s keeps =
@@ -271,6 +286,7 @@ module _ (limit me : ℕ) (now : List ExactPlace) where
       (where_false (nat_eq (length now) limit) _ _ (ne_eqb (length now) limit room))
       (record { state_so = keeps.state_so; step_so = refl }) refl refl
 
+  -- a session that is to claim place c, where c places are claimed, gets it as a claimed one, and is about to write it
   pub wins_fit : (old : Kept) (pending : Pending) (c : ℕ) → old.step ≡ Claims pending c → length now ≡ c →
       ActFits limit me old now act.Claim Quiet (record { state = old.state; step = Writes pending c })
       (now ++ place.Claimed me ∷ [])
@@ -288,6 +304,7 @@ module _ (limit me : ℕ) (now : List ExactPlace) where
       (where_true (nat_eq (length now) c) _ _ (eq-eqb (length now) c won))
       (record { state_so = keeps.state_so; step_so = refl }) refl refl
 
+  -- a session that is to claim place c, where not c places are claimed, replies, and keeps its answer with `Raced`
   pub raced_fits : (old : Kept) (pending : Pending) (c : ℕ) → old.step ≡ Claims pending c → (length now ≡ c → ⊥) →
       ActFits limit me old now act.Claim (Replied me (answered old.state pending.end))
       (record { state = after_put old.state pending (Raced (length now)); step = Idle }) now
@@ -301,6 +318,7 @@ module _ (limit me : ℕ) (now : List ExactPlace) where
       (record { state_so = ap (λ x. after_put x pending (Raced (length now))) keeps.state_so; step_so = refl }) refl
       (ap (λ x. Replied me (answered x pending.end)) (sym keeps.state_so))
 
+  -- a session that is to write place k writes its words there, replies, and keeps its answer with `Published`
   pub done_fits : (old : Kept) (pending : Pending) (k : ℕ) → old.step ≡ Writes pending k →
       ActFits limit me old now act.Done (Replied me (answered old.state pending.end))
       (record { state = after_put old.state pending (Published k); step = Idle })

@@ -35,7 +35,8 @@ use Rattle.lp_core.proofs.Acts.{claims_fit, wins_fit, raced_fits, done_fits}
 
 -- ---- the step, by the stage
 
--- what is pending, at a stage of a put
+-- at a stage of a put the session awaits what becomes of a solve's end with these words, which are well formed, and its
+-- step is the put's step with this end
 pub record HasPending (aw : Awaits) (words : Words) (step : Pending → Step) (is : Step) : Type 0 where
   pub pending : Pending
   pub awaited : aw ≡ WhatBecameOf pending
@@ -83,17 +84,20 @@ writes_step st aw words k e a =
 
 module _ (limit me : ℕ) (now : List ExactPlace) (old : Kept) (x : State) (st : Stage) (aw : Awaits)
     (view : record { state = x; step = step_of st aw } ≡ old) where
+  -- what the code holds of this session: its state, and the step by its stage and what it awaits
   abbrev here : Kept
   here = record { state = x; step = step_of st aw }
 
-  -- a session and its stage
+  -- what the code holds of a session that stands so and is at this stage
   abbrev kept_of : Standing → Stage → Kept
   kept_of s st' = record { state = s.state; step = step_of st' s.awaits }
 
+  -- what an act does to a session as the code holds it here, it does to `old`
   at_old : (a : ExactAct) (end : ExactEnd) (new : Kept) (next : List ExactPlace) →
       ActFits limit me here now a end new next → ActFits limit me old now a end new next
   at_old a end new next h = subst (λ o. ActFits limit me o now a end new next) view h
 
+  -- an idle session that is asked and replies at once does what a session may do
   pub ask_replies : (asked : ExactAsk) (replied : ExactReply) (s : Standing) → st ≡ stage.Idle →
       StartFits x asked (started.Reply replied) s →
       ActFits limit me old now (act.Ask asked) (Replied me replied) (kept_of s st) now
@@ -103,6 +107,7 @@ module _ (limit me : ℕ) (now : List ExactPlace) (old : Kept) (x : State) (st :
       (record { state = s.state; step = step }) now) (sym (ap (λ t. step_of t s.awaits) idle))
       (reply_fits limit me now here asked replied s.state (ap (λ t. step_of t aw) idle) fits.0))
 
+  -- an idle session that is asked and begins a look does what a session may do
   pub ask_looks : (asked : ExactAsk) (shape : Words) (s : Standing) → st ≡ stage.Idle →
       StartFits x asked (started.Look shape) s →
       ActFits limit me old now (act.Ask asked) Quiet (kept_of s (stage.Counts shape)) now
@@ -111,6 +116,7 @@ module _ (limit me : ℕ) (now : List ExactPlace) (old : Kept) (x : State) (st :
       (subst (λ (y : Standing). ActFits limit me here now (act.Ask asked) Quiet (kept_of y (stage.Counts shape)) now)
       (sym fits.1) (look_fits limit me now here asked shape (ap (λ t. step_of t aw) idle) fits.0))
 
+  -- a session that counts the claimed places as its look begins does what a session may do
   pub counts_on : (shape : Words) (st' : Stage) → st ≡ stage.Counts shape → st' ≡ looking_at shape (length now) →
       ActFits limit me old now act.Count Quiet (record { state = x; step = step_of st' aw }) now
   counts_on shape st' counts is =
@@ -118,6 +124,7 @@ module _ (limit me : ℕ) (now : List ExactPlace) (old : Kept) (x : State) (st :
       (subst (λ y. ActFits limit me here now act.Count Quiet (record { state = x; step = step_of y aw }) now) (sym is)
       (count_fits limit me now here shape aw (ap (λ t. step_of t aw) counts)))
 
+  -- a session that reads the next place of its look does what a session may do
   pub sees_on : (shape : Words) (k j : ℕ) (words : Option Words) (st' : Stage) → st ≡ stage.Sees shape k → j ≡ k →
       words ≡ words_at now k → st' ≡ seen_at shape k words →
       ActFits limit me old now (act.See j) Quiet (record { state = x; step = step_of st' aw }) now
@@ -127,6 +134,7 @@ module _ (limit me : ℕ) (now : List ExactPlace) (old : Kept) (x : State) (st :
       (sym (is ∙ ap (seen_at shape k) read))
       (see_fits limit me now here shape k j aw (ap (λ t. step_of t aw) sees) same))
 
+  -- a session that solves after its look and replies does what a session may do
   pub works_reply : (found : Looked) (replied : ExactReply) (s : Standing) → st ≡ stage.Solving found →
       NextFits x found (goes.Reply replied) s →
       ActFits limit me old now act.Work (Replied me replied) (kept_of s stage.Idle) now
@@ -134,6 +142,7 @@ module _ (limit me : ℕ) (now : List ExactPlace) (old : Kept) (x : State) (st :
       at_old act.Work (Replied me replied) (kept_of s stage.Idle) now
       (ends_fit limit me now here found replied s.state (ap (λ t. step_of t aw) solving) fits.0)
 
+  -- a session that solves after its look and is to publish words does what a session may do
   pub works_publish : (found : Looked) (words : Words) (s : Standing) → st ≡ stage.Solving found →
       NextFits x found (goes.Publish words) s →
       ActFits limit me old now act.Work Quiet (kept_of s (stage.Puts words)) now
@@ -158,6 +167,7 @@ module _ (limit me : ℕ) (now : List ExactPlace) (old : Kept) (x : State) (st :
         (subst (λ (y : Standing). ActFits limit me here now a (Replied me (answered x pending.end))
         (kept_of y stage.Idle) next) (sym p.1) h))
 
+    -- a session that is to publish, finds all places claimed and replies does what a session may do
     pub puts_full : (words : Words) → st ≡ stage.Puts words → Agrees st aw → length now ≡ limit →
         PutFits x aw (Full (length now)) r s →
         ActFits limit me old now act.Count (Replied me r) (kept_of s stage.Idle) now
@@ -166,6 +176,7 @@ module _ (limit me : ℕ) (now : List ExactPlace) (old : Kept) (x : State) (st :
         put_ends act.Count (Full (length now)) now p.pending p.awaited puts
         (full_fits limit me now here p.pending p.step_so full)
 
+    -- a session that is to claim a place, finds another count than before and replies does what a session may do
     pub puts_raced : (words : Words) (c n : ℕ) → st ≡ stage.Claims words c → Agrees st aw →
         n ≡ length now → (n ≡ c → ⊥) → PutFits x aw (Raced n) r s →
         ActFits limit me old now act.Claim (Replied me r) (kept_of s stage.Idle) now
@@ -175,6 +186,7 @@ module _ (limit me : ℕ) (now : List ExactPlace) (old : Kept) (x : State) (st :
         (subst (λ m. PutFits x aw (Raced m) r s) counted puts)
         (raced_fits limit me now here p.pending c p.step_so (subst (λ m. m ≡ c → ⊥) counted lost))
 
+    -- a session that writes its words into the place that it claimed and replies does what a session may do
     pub puts_done : (words : Words) (k : ℕ) (next : List ExactPlace) → st ≡ stage.Writes words k → Agrees st aw →
         PutFits x aw (Published k) r s →
         next ≡ with_place now k (place.Done words) →
@@ -187,6 +199,7 @@ module _ (limit me : ℕ) (now : List ExactPlace) (old : Kept) (x : State) (st :
         (sym (places ∙ ap (λ ws. with_place now k (place.Done ws)) (sym p.words_so)))
         (done_fits limit me now here p.pending k p.step_so))
 
+  -- a session that is to publish and counts fewer claimed places than there are does what a session may do
   pub puts_claim : (words : Words) → st ≡ stage.Puts words → Agrees st aw → (length now ≡ limit → ⊥) →
       ActFits limit me old now act.Count Quiet
       (record { state = x; step = step_of (stage.Claims words (length now)) aw }) now
@@ -197,6 +210,7 @@ module _ (limit me : ℕ) (now : List ExactPlace) (old : Kept) (x : State) (st :
       (record { state = x; step = step_of (stage.Claims words (length now)) w }) now) (sym p.awaited)
       (claims_fit limit me now here p.pending p.step_so room))
 
+  -- a session that claims the place of the number that it counted does what a session may do
   pub claims_win : (words : Words) (c : ℕ) (next : List ExactPlace) → st ≡ stage.Claims words c → Agrees st aw →
       length now ≡ c → next ≡ now ++ place.Claimed me ∷ [] →
       ActFits limit me old now act.Claim Quiet (record { state = x; step = step_of (stage.Writes words c) aw }) next

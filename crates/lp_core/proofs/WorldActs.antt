@@ -28,15 +28,19 @@ last_part me n h = leb-true me n (and_parts (nat_lt 0 me) (nat_le me n) h).1
 
 module _ (held : List Kept) (places : List ExactPlace) (limit me : ℕ) (from : 0 < me) (to : me ≤ length held)
     (kept : Kept) (is : kept ≡ get_or held (me - 1) kept) where
+  -- what the code holds of the world before the act
   abbrev old : Core
   old = record { held = held; places = places; limit = limit }
 
+  -- the server of these sessions and places
   abbrev server : Server
   server = server_of old
 
+  -- what the code holds of the world where it holds `new` of session `me`, and the places are these
   abbrev after : Kept → List ExactPlace → Core
   after new next = record { held = set held (me - 1) new; places = next; limit = limit }
 
+  -- what is held of session `me` is `kept`
   kept_so : get_or held (me - 1) opening_kept ≡ kept
   kept_so = sym (get_or_read held (me - 1) kept (omega arith) is opening_kept)
 
@@ -46,6 +50,7 @@ module _ (held : List Kept) (places : List ExactPlace) (limit me : ℕ) (from : 
   other_kept new session first apart =
       get_or-set_other held (me - 1) (session - 1) new opening_kept (λ e. apart (omega arith))
 
+  -- after the act, what is held of session `me` is the new one
   own_kept : (new : Kept) → get_or (set held (me - 1) new) (me - 1) opening_kept ≡ new
   own_kept new = get_or-set_same held (me - 1) new opening_kept (omega arith)
 
@@ -83,6 +88,7 @@ module _ (held : List Kept) (places : List ExactPlace) (limit me : ℕ) (from : 
               (shows.each session (subst (λ n. has_session (record { sessions = n; places = limit }) session ≡ true)
               (length-set held (me - 1) new) h)))
 
+  -- an act of session `me`, taken or not, leads a world of which `old` is held to one of which the new is held
   by_act : (w : World) (a : ExactAct) (end : ExactEnd) (new : Kept) (next : List ExactPlace) → Shows old w →
       (t : Bool) → fits_stage (w.sessions me).stage a ≡ t →
       ActBy t server me kept places (w.sessions me) a end new next →
@@ -110,6 +116,7 @@ module _ (held : List Kept) (places : List ExactPlace) (limit me : ℕ) (from : 
             (subst (λ ps. Shows (record { held = held; places = ps; limit = limit }) w) (sym h.2) shows),
       )
 
+  -- where an act fits what is held of session `me`, the event of this act leads on as it may
   pub act_steps : (core : Core) (a e : ExactAct) (end : ExactEnd) (new : Kept) (next : List ExactPlace) → old ≡ core →
       e ≡ a → ActFits limit me kept places a end new next →
       StepFits core (record { session = me; act = e }) end (after new next)

@@ -15,7 +15,7 @@ use Rattle.spec_world.specs.Sound.{IsSound}
 use Rattle.lp_core.specs.declared.stage.Stage.{Stage}
 use Rattle.lp_core.specs.declared.stage.Stage.TheVariants as stage
 
--- where a session is in its request, without what it read
+-- how far a session is with its request, without what it read for it
 pub data Step : Type 0 where
   Idle : Step
   Counts : (shape : Words) → Step
@@ -25,7 +25,7 @@ pub data Step : Type 0 where
   Claims : (pending : Pending) → (count : ℕ) → Step
   Writes : (pending : Pending) → (place : ℕ) → Step
 
--- how far a session is with its request, without what it read for it
+-- a stage of the definitions without what was read for it
 abbrev pub shown_step : world.Stage → Step
 shown_step world.Idle = Idle
 shown_step (world.Counts shape) = Counts shape
@@ -53,13 +53,14 @@ step_of (stage.Puts words) awaits = with_pending awaits Puts
 step_of (stage.Claims words c) awaits = with_pending awaits (λ pending. Claims pending c)
 step_of (stage.Writes words k) awaits = with_pending awaits (λ pending. Writes pending k)
 
--- what becomes of these words is awaited, and they are well formed
+-- the session waits for what becomes of these words, and they are well formed
 abbrev pub IsPending : Awaits → Words → Type 0
 IsPending Nothing words = ⊥
 IsPending (WhatIsFound shape) words = ⊥
 IsPending (WhatBecameOf pending) words = (pending.words ≡ words) × IsWellFormed words
 
--- the session waits for what the code's state of its request is about
+-- the session waits for what the code's stage is about: for nothing where it is idle; in a look for what a look for
+-- this shape finds; as it is to solve for such a thing as was found; in a put for what becomes of these words
 abbrev pub Agrees : Stage → Awaits → Type 0
 Agrees stage.Idle awaits = awaits ≡ Nothing
 Agrees (stage.Counts shape) awaits = awaits ≡ WhatIsFound shape
@@ -69,7 +70,7 @@ Agrees (stage.Puts words) awaits = IsPending awaits words
 Agrees (stage.Claims words c) awaits = IsPending awaits words
 Agrees (stage.Writes words k) awaits = IsPending awaits words
 
--- a session as the code holds it
+-- what the code holds of a session: its state, and how far it is with its request
 pub record Kept : Type 0 where
   pub state : State
   pub step : Step
@@ -78,12 +79,12 @@ pub record Kept : Type 0 where
 abbrev pub opening_kept : Kept
 opening_kept = record { state = opening; step = Idle }
 
--- the code holds this of the session
+-- what the code holds is the session's state and stage, without what was read for its request
 pub record Keeps (kept : Kept) (s : Session) : Type 0 where
   pub state_so : s.state ≡ kept.state
   pub step_so : shown_step s.stage ≡ kept.step
 
--- a claim is below the number of places
+-- if the session is about to claim a place, the count that it read is below the number of places
 abbrev pub IsBelow : ℕ → Step → Type 0
 IsBelow limit (Claims pending c) = c < limit
 IsBelow limit step = Unit {0}
@@ -111,7 +112,8 @@ abbrev pub ActBy : Bool → Server → ℕ → Kept → List ExactPlace → Sess
 ActBy true server me old now s a end new next = Acted server me now s a end new next
 ActBy false server me old now s a end new next = (end ≡ Not) × (new ≡ old) × (next ≡ now)
 
--- whichever session of a world this is held of
+-- each session of which the code holds `old` may take this act, if it is its next one, so that the code holds `new` of
+-- it, and the places and the end are these; else nothing changes
 abbrev pub ActFits : ℕ → ℕ → Kept → List ExactPlace → ExactAct → ExactEnd → Kept → List ExactPlace → Type 0
 ActFits limit me old now a end new next =
     (sessions : ℕ) (s : Session) → Keeps old s →
@@ -119,7 +121,8 @@ ActFits limit me old now a end new next =
 
 -- ---- the whole
 
--- the sessions in the order of their numbers, and the claimed places
+-- what the code holds of a world: its sessions in the order of their numbers, the claimed places,
+-- and how many places there are
 pub record Core : Type 0 where
   pub held : List Kept
   pub places : List ExactPlace
@@ -129,13 +132,13 @@ pub record Core : Type 0 where
 abbrev pub server_of : Core → Server
 server_of core = record { sessions = length core.held; places = core.limit }
 
--- the code holds this of the world
+-- what the code holds is the world's: each of its sessions, and its places
 pub record Shows (core : Core) (w : World) : Type 0 where
   pub each : (session : ℕ) → has_session (server_of core) session ≡ true →
       Keeps (get_or core.held (session - 1) opening_kept) (w.sessions session)
   pub places_so : w.places ≡ core.places
 
--- whichever world this is held of, an event leads it on as it may, to one that is then held
+-- each world of which the code holds `old` is led by this event, with this end, to a world of which it holds `new`
 abbrev pub StepFits : Core → ExactEvent → ExactEnd → Core → Type 0
 StepFits old event end new =
     (w : World) → Shows old w → (next : World) × WorldStep (server_of old) w event end next × Shows new next

@@ -7,16 +7,17 @@ use Rattle.lp_core.specs.declared.stage.Stage.{Stage}
 use Rattle.lp_core.specs.declared.stage.Stage.TheVariants.{Solving}
 use Rattle.lp_core.specs.Stages.{looking_at}
 
--- the words of a place that is done
+-- the words of a place, if it is done; else none
 abbrev pub words_in : Option ExactPlace → Option Words
 words_in (Some (place.Done words)) = Some words
 words_in other = None
 
--- the words of place k, if it is done
+-- the words of place k, if it is done; else none
 abbrev pub words_at : List ExactPlace → ℕ → Option Words
 words_at now k = words_in (place_at now k)
 
--- where a look goes on after it read place k: it has found the place, or goes on below it
+-- the stage of a look after its read of place k: ended with the place, if it is done with the shape; else at the next
+-- one down, or ended with nothing
 abbrev pub seen_at : Words → ℕ → Option Words → Stage
 seen_at shape k None = looking_at shape k
 seen_at shape k (Some words) =

@@ -35,7 +35,7 @@ impl Model for Seat {
     ghost invariant = { λ h. Agrees h.stage h.session.awaits };
 }
 
-// The words of a place that is done.
+// The words of a place that is done; none of one that is only claimed, or not even that.
 fn words_of(places: &[Place<BasisWords>], place: u32) -> Option<BasisWords>
     ensures { result ≡ words_at places.now place }
 {
@@ -48,7 +48,7 @@ fn words_of(places: &[Place<BasisWords>], place: u32) -> Option<BasisWords>
     }
 }
 
-// Writes a place, if it is claimed.
+// Writes the words into a claimed place, which is done then. A number past the claimed places changes nothing.
 fn write(places: &mut Vec<Place<BasisWords>>, place: u32, words: BasisWords)
     ensures items { places.new.items ≡ with_place places.old.items place (place_is.Done words) }
     ensures len { length places.new.items ≡ length places.old.items }
@@ -66,7 +66,8 @@ fn has_shape(shape: &ShapeWords, words: &BasisWords) -> bool
     words[..25] == shape[..]
 }
 
-// Where a look goes on from a place, or ends.
+// The next stage of a look for a shape that has read a place: with words of that shape it ends there, else it goes on
+// to the place before it, or ends with nothing found where there is none.
 fn seen(shape: ShapeWords, place: u32, read: Option<BasisWords>) -> Stage
     ensures { result ≡ seen_at shape place read }
 {
@@ -87,7 +88,8 @@ impl Seat {
         }
     }
 
-    /// Performs the act on the sessions and the places.
+    /// The session takes this act, which may change the session and the places. An act that does not suit its stage is
+    /// not taken.
     pub fn act(
         &mut self,
         alloc: Global,
@@ -116,7 +118,8 @@ impl Seat {
         }
     }
 
-    // The session is asked, if it is in no request. It replies, or goes on with a look for its shape.
+    // The session is asked, if it is in no request; else the act is not taken. It replies, or goes on with a look for
+    // the shape of its model's form.
     fn ask(
         &mut self,
         alloc: Global,
@@ -141,7 +144,9 @@ impl Seat {
         }
     }
 
-    // The session reads how many places are claimed, to look or to publish.
+    // Where a look or a put begins, the session reads how many places are claimed; else the act is not taken. The look
+    // goes on from the newest place, or ends where there is none. The put goes on to claim the next place; where all
+    // `limit` places are claimed, the session replies instead.
     fn count(&mut self, me: u32, limit: u32, places: &[Place<BasisWords>]) -> StepEnd<Reply>
         requires { length places.now ≤ limit }
         ensures fits { ActFits limit me self.old places.now acts.Count result self.new places.now }
@@ -166,7 +171,7 @@ impl Seat {
         }
     }
 
-    // The session reads the place, if this is the next place of its look-up.
+    // The session reads the place, if this is the next place of its look-up; else the act is not taken.
     fn see(&mut self, me: u32, limit: u32, places: &[Place<BasisWords>], at: u32) -> StepEnd<Reply>
         requires formed { AreFormed places.now }
         ensures fits { ActFits limit me self.old places.now (acts.See at) result self.new places.now }
@@ -182,8 +187,8 @@ impl Seat {
         StepEnd::Quiet
     }
 
-    // Where the session's look has ended, the session solves with what the look found. It then has its reply, or goes
-    // on to publish the words of its final basis.
+    // Where the session's look has ended, the session solves with what the look found; else the act is not taken. It
+    // then has its reply, or goes on to publish the words of its final basis.
     fn work(
         &mut self,
         alloc: Global,
@@ -209,7 +214,8 @@ impl Seat {
         }
     }
 
-    // The session claims the next place, or replies that another was quicker.
+    // Where a claim is due, the session claims the next place, if as many are claimed as it counted. Else another
+    // session was quicker, and it gives the reply of its solve. Where no claim is due, the act is not taken.
     fn claim(&mut self, me: u32, limit: u32, places: &mut Vec<Place<BasisWords>>) -> StepEnd<Reply>
         requires below { IsBelow limit self.old.step }
         requires few { length places.old.items ≤ limit }
@@ -235,7 +241,8 @@ impl Seat {
         StepEnd::Quiet
     }
 
-    // The session writes the words into the place that it claimed, and replies.
+    // Where the session has claimed a place, it writes its words there and gives the reply of its solve; the place is
+    // done then. Where it has claimed none, the act is not taken.
     fn done(&mut self, me: u32, limit: u32, places: &mut Vec<Place<BasisWords>>) -> StepEnd<Reply>
         requires room { limit ≤ vec_capacity places.old }
         requires few { length places.old.items ≤ limit }

@@ -4,7 +4,7 @@ ghost use Rattle.lp_core.specs.Stages.{looking_at};
 
 use spec_board::{BasisWords, Found, ShapeWords};
 
-/// Where a session is in its ask.
+/// Where a session is in its ask: what it is to do next, with what this needs.
 #[derive(Clone, Copy)]
 pub enum Stage {
     /// No ask is being answered.
@@ -23,7 +23,8 @@ pub enum Stage {
     Writes(BasisWords, u32),
 }
 
-/// A look for a shape that has come down to the place below this number.
+/// The stage of a look for a shape that has `places` places left, the last one first. With none left the session
+/// solves, with nothing found.
 pub fn looking(shape: ShapeWords, places: u32) -> Stage
     ensures { result ≡ looking_at shape places }
 {

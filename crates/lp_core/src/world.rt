@@ -60,8 +60,8 @@ impl World {
         self.act(alloc, event)
     }
 
-    // Takes one event, as it is for any one world of the definitions. `step` shows what follows for all events that
-    // came before.
+    // Takes one event: the session that it names takes its act, which may change that session and the places. The event
+    // is not taken where there is no such session, or the act does not suit its stage.
     fn act(&mut self, alloc: Global, event: Event<Ask>) -> StepEnd<Reply>
         ensures fits { StepFits self.old event result self.new }
         ensures size { (length self.new.held ≡ length self.old.held) × (self.new.limit ≡ self.old.limit) }
