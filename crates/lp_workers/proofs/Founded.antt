@@ -18,6 +18,7 @@ use Rattle.spec_serve.proofs.OwnPart.{own_part}
 use Rattle.spec_serve.proofs.LeftPlaces.{logged-append}
 use Rattle.basis_board.specs.Played.{of_read, Supposes, AreFounded, IsOfWorker}
 
+-- each read of the first list is in the second one
 abbrev AreAmong : List Logged → List Logged → Type 0
 AreAmong xs ys = (x : Logged) → Contains xs x → Contains ys x
 
@@ -28,6 +29,7 @@ among_more x xs ys sub y c =
     (λ (b : Contains xs y). Contains-append_right (x ∷ []) ys y (sub y b)) (Contains-append_cases (x ∷ []) xs y c)
 
 module _ (places : ℕ) where
+  -- what a read supposes of the reads before it is there too where these are among more reads
   supposes_more : (made more : List Logged) (session : ℕ) (r : ExactRead) → AreAmong made more →
       Supposes places made session r → Supposes places more session r
   supposes_more made more session (read.Count c) sub s = tt
@@ -37,6 +39,7 @@ module _ (places : ℕ) where
   supposes_more made more session (read.Lost c) sub s = tt
   supposes_more made more session (read.Done k words) sub s = sub (of_read session (read.Claim k)) s
 
+  -- reads that are founded on others before them are founded where these are among more reads
   founded_more : (made more log : List Logged) → AreAmong made more → AreFounded places made log →
       AreFounded places more log
   founded_more made more [] sub f = tt
@@ -45,6 +48,7 @@ module _ (places : ℕ) where
     founded_more (x ∷ made) (x ∷ more) log (among_more x made more sub) f.1,
   )
 
+  -- where reads are founded on those made before, and others on none, both in order are founded on those made before
   founded_append : (made xs ys : List Logged) → AreFounded places made xs → AreFounded places [] ys →
       AreFounded places made (xs ++ ys)
   founded_append made [] ys f g = founded_more [] made ys (λ x c. (let l = c.1 in absurd (omega arith))) g
@@ -53,20 +57,25 @@ module _ (places : ℕ) where
   -- ---- one step
 
   module _ (session : ℕ) where
+    -- these reads of the session are founded on those made before
     abbrev IsFounded : List Logged → List ExactRead → Type 0
     IsFounded made reads = AreFounded places made (logged session reads)
 
+    -- an empty list of reads is founded on whatever was made
     none_founded : (made : List Logged) (reads : List ExactRead) → reads ≡ [] → IsFounded made reads
     none_founded made reads e = subst (IsFounded made) (sym e) tt
 
+    -- a read that was made is among those made with one more
     one_more : (x y : Logged) (made : List Logged) → Contains made y → Contains (x ∷ made) y
     one_more x y made c = Contains-append_right (x ∷ []) made y c
 
+    -- the reads of a look behind a place that it saw are founded, whether the place is found or passed over
     seen_founded : (b : Bool) (k : ℕ) (words : Words) (reads : List ExactRead) (found : Looked) (Rest : Type 0)
         (made : List Logged) → (Rest → IsFounded made reads) → SeenBy b k words reads found Rest → IsFounded made reads
     seen_founded true k words reads found Rest made more s = none_founded made reads s.1
     seen_founded false k words reads found Rest made more s = more s.1
 
+    -- the reads of a look down from place k, below the count that it read, are founded on that count
     sees_founded : (shape : Words) (c k : ℕ) (reads : List ExactRead) (found : Looked) (made : List Logged) → k ≤ c →
         Contains made (of_read session (read.Count c)) → SeesDown shape k reads found → IsFounded made reads
     sees_founded shape c zero reads found made l there s = none_founded made reads s.0
@@ -89,6 +98,7 @@ module _ (places : ℕ) where
     sees_founded shape c (suc k) (read.Lost d ∷ reads) found made l there s = absurd s
     sees_founded shape c (suc k) (read.Done j words ∷ reads) found made l there s = absurd s
 
+    -- the reads of a look are founded on nothing before them
     look_founded : (shape : Words) (reads : List ExactRead) (found : Looked) → LookReads shape reads found →
         IsFounded [] reads
     look_founded shape reads found look =
@@ -98,6 +108,7 @@ module _ (places : ℕ) where
               (omega arith) (zero, omega arith, refl) look.down,
         )
 
+    -- the reads of a put are founded on nothing before them
     put_founded : (words : Words) (put : Put) (reads : List ExactRead) → PutReads places words put reads →
         IsFounded [] reads
     put_founded words (Published k) reads p =
@@ -105,6 +116,7 @@ module _ (places : ℕ) where
     put_founded words (Raced e) reads p = subst (IsFounded []) (sym p.2) (tt, (tt, tt))
     put_founded words (Full c) reads p = subst (IsFounded []) (sym p.1) (tt, tt)
 
+    -- the reads of a solve are founded where those of its look are
     concludes_founded : (old : State) (worked : Worked) (looked reads : List ExactRead) (replied : ExactReply)
         (new : State) → Concludes places old worked looked reads replied new → IsFounded [] looked →
         IsFounded [] reads
@@ -114,6 +126,7 @@ module _ (places : ℕ) where
         (founded_append [] (logged session looked) (logged session c.tried) f
         (put_founded pending.words c.put c.tried c.puts))
 
+    -- the reads of a step, by how it began, are founded on nothing before them
     goes_founded : (old : State) (begun : Begun) (reads : List ExactRead) (replied : ExactReply) (new : State) →
         GoesOn places old begun reads replied new → IsFounded [] reads
     goes_founded old (step.Answers stated next) reads replied new g = none_founded [] reads g.0
@@ -123,6 +136,7 @@ module _ (places : ℕ) where
 
   -- ---- all of them
 
+  -- the reads of exchanges in which each session runs alone are founded, each on those before it
   pub run_founded : (states : ℕ → State) (xs : List Exchange) →
       ((session : ℕ) → (end : State) × AloneRun places (states session) (of_session session xs) end) →
       AreFounded places [] (log_of xs)

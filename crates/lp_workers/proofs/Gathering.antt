@@ -2,7 +2,8 @@
 --
 -- `cut_is_fresh`: a pass that was cut off one of the board's has read and noted nothing.
 -- `gathered_notes`: when the last pass of a list is met into a first one, no note is lost and none is added.
--- `one_log`: the notes of all passes are one log if those of the pass that they were met into are.
+-- `one_log`: where the first pass has read nothing, the notes of all other passes are one log if those of the pass
+--   are that all were met into.
 -- `map_reverse`: mapping a function over a reversed list gives the reversed list of its values.
 -- `split_next`: an element that is moved from the end of a list to the ones set aside leaves the whole as it was.
 -- `split_all`: when all elements are set aside, they are the whole list in reverse.
@@ -48,6 +49,7 @@ met_reads v w = reads_more w.reads v.reads
 
 module _ (all : List ExactRead) (first next : View) (rest : List Known) (pass : Known)
     (meets : next ≡ met first pass.view) where
+  -- the reads of the first pass and of the passes, with those of the last pass put behind those of the others
   before : reads_of first ++ reads_of_all (rest ++ pass ∷ [])
       ≡ reads_of first ++ (reads_of_all rest ++ reads_of pass.view)
   before =
@@ -55,11 +57,14 @@ module _ (all : List ExactRead) (first next : View) (rest : List Known) (pass : 
       (flat_map-append (λ (p : Known). reads_of p.view) rest (pass ∷ [])
       ∙ ap (λ rs. reads_of_all rest ++ rs) (append-nil (reads_of pass.view)))
 
+  -- with the last pass merged into the first, the first one's reads and then those of the others are the reads of both
+  -- and of the others
   after : reads_of first ++ (reads_of pass.view ++ reads_of_all rest) ≡ reads_of next ++ reads_of_all rest
   after =
       sym (append_assoc (reads_of first) (reads_of pass.view) (reads_of_all rest))
       ∙ ap (λ rs. rs ++ reads_of_all rest) (sym (met_reads first pass.view) ∙ ap reads_of (sym meets))
 
+  -- where the last pass of a list is merged into the first one, the reads of all are the same in some order
   pub gathered_more : (passes : List Known) → passes ≡ rest ++ pass ∷ [] →
       IsPermutation all (reads_of first ++ reads_of_all passes) → IsPermutation all (reads_of next ++ reads_of_all rest)
   gathered_more passes split so =
@@ -116,7 +121,7 @@ map_reverse f (x ∷ xs) =
     ∙ ap (λ ys. ys ++ f x ∷ []) (map_reverse f xs)
     ∙ sym (last_first (f x) (map f xs))
 
--- what is left of a list and what was put aside, the last one first
+-- the list `all` is what is left of it and then, in reverse, what was put aside, of which the last one is the first
 abbrev pub AreSplit : {X : Type 0} → List X → List X → List X → Type 0
 AreSplit all left aside = left ++ reverse aside ≡ all
 

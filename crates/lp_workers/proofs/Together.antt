@@ -1,7 +1,8 @@
 -- All workers take their turns, and what their passes know together.
 --
 -- `written_back`: a list written over one of the same length takes its place.
--- `all_backed`: what passes read is backed if all of them were met into one that knows the whole board.
+-- `all_backed`: what passes read is backed if all of them were met into a first one that had read nothing, and that
+--   then knows the whole board.
 use Rattle.std.proofs.Common.{◌≡◌, ℕ, suc, List, [], ◌∷◌, ◌++◌, length, map, reverse, take, drop}
 use Rattle.std.proofs.Common.{ap, sym, ◌∙◌, subst, arith, append-nil}
 use Rattle.std.specs.List.{All, AllByRecursion}
@@ -57,6 +58,7 @@ all_backed board first last passes unread now knows used gathered =
 
 module _ {C T : Type 0} (is_ready : C → T → Type 0) (took : C → Board → T → Known → T → Known → Type 0) (shared : C)
     (board : Board) where
+  -- workers whose jobs are ready and whose passes are fresh are ready
   pub all_ready : (jobs : List T) (workers : List (Worker T)) → jobs_of workers ≡ jobs → All (is_ready shared) jobs →
       All (λ (w : Worker T). IsFresh board w.pass) workers → All (IsReady is_ready took shared board) workers
   all_ready jobs workers are ready fresh i d l = record {
@@ -66,6 +68,7 @@ module _ {C T : Type 0} (is_ready : C → T → Type 0) (took : C → Board → 
     pass = fresh i d l;
   }
 
+  -- the passes of workers that took their turns are used ones of the board
   pub used_each : (olds news : List (Worker T)) → length news ≡ length olds →
       TakeTurns is_ready took shared board olds news → AllByRecursion (IsUsed board) (passes_of news)
   used_each olds [] same turns = tt
@@ -75,6 +78,7 @@ module _ {C T : Type 0} (is_ready : C → T → Type 0) (took : C → Board → 
     used_each olds news (omega (arith, same)) (λ i d l. turns (suc i) d (omega (arith, l))),
   )
 
+  -- where the workers in a slice took their turns, those of the vector took them, in which the slice was written back
   pub taken_now : (n : ℕ) (old slice new : List (Worker T)) → n ≡ length old → slice ≡ old →
       length new ≡ length slice → TakeTurns is_ready took shared board slice new →
       (length (take n (new ++ drop (length new) old)) ≡ length old)

@@ -30,18 +30,18 @@ pub record IsUsed (board : Board) (pass : Known) : Type 0 where
   pub were_true : WereTrue pass.moments pass.view.reads
   pub orderly : IsOrderly pass.view
 
--- what passes read, one after the other
+-- the reads of all passes, one pass after the other
 abbrev pub reads_of_all : List Known → List ExactRead
 reads_of_all passes = flat_map (λ (pass : Known). reads_of pass.view) passes
 
--- what passes noted, those of one after those of the other
+-- the notes of all passes, one pass after the other
 abbrev pub notes_of_all : List Known → List Note
 notes_of_all passes = flat_map notes_of passes
 
--- a pass with all parts owns the places below some number, and no count exceeds it
+-- the pass published each place below some number n and no other, and n is as a read of the count would tell it now
 abbrev pub KnowsWhole : View → Type 0
 KnowsWhole v = (n : ℕ) × OwnsBelow v n × CountTells v n
 
--- what a pass knows that has `parts` of the 64 parts of the right to the board
+-- what a pass knows, but with `parts` of the 64 parts of the right to the board
 abbrev pub part_of : View → ℕ → View
 part_of v parts = record v { share = parts }

@@ -21,7 +21,8 @@ module _ {C T : Type 0} (is_ready : C → T → Type 0) (took : C → Board → 
     pub job : is_ready shared w.job
     pub pass : IsFresh board w.pass
 
-  -- a worker before its turn and after it
+  -- a worker before its turn and after it: it was ready, its job and its pass are then what `took` says of the turn,
+  -- and its pass is a used one
   pub record TookTurn (board : Board) (old new : Worker T) : Type 0 where
     pub ready : IsReady board old
     pub turn : took shared board old.job old.pass new.job new.pass

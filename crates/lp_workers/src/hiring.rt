@@ -19,8 +19,8 @@ pub struct Worker<T> {
     pub pass: Pass,
 }
 
-/// A worker for each job, in their order, each with a pass that is cut off the first one. The jobs leave their room
-/// empty.
+/// A worker for each job, in their order, each with a pass that is split off the first one and has one part of its
+/// share. The jobs are taken out of their vector, which keeps its room. Without memory they stay there.
 pub(crate) fn hire<T: Drop>(
     alloc: Global,
     board: &Board,
@@ -51,8 +51,8 @@ pub(crate) fn hire<T: Drop>(
     Ok(hired)
 }
 
-/// The jobs in their order, in the room that they left; and the passes of the workers, met into the first one, which is
-/// then the only one.
+/// Takes the jobs out of the workers, and puts them in their order into the vector, in the room that they left. It
+/// gives the first pass, into which those of all workers were merged: it has their parts and reads beside its own.
 pub(crate) fn dismiss<T: Drop>(
     board: &Board,
     mut first: Pass,

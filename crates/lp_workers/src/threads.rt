@@ -26,7 +26,7 @@ fn take_turn<R: Wait, C, T: Turn<C>>(
     worker.job.turn(rt, alloc, shared, board, &mut worker.pass);
 }
 
-// Each worker takes its turn, in a thread of its own.
+// Each worker takes its turn, in a thread of its own where the system makes one.
 fn take_turns<R: Threads + Wait + Sync, C: Sync, T: Turn<C> + Send + Drop>(
     rt: &R,
     alloc: Global,
@@ -49,7 +49,8 @@ fn take_turns<R: Threads + Wait + Sync, C: Sync, T: Turn<C> + Send + Drop>(
     );
 }
 
-// Each worker of a vector takes its turn, in a thread of its own. The workers stay in their order.
+// Each worker of a vector takes its turn, in a thread of its own where the system makes one. The workers stay in their
+// order.
 fn take_all_turns<R: Threads + Wait + Sync, C: Sync, T: Turn<C> + Send + Drop>(
     rt: &R,
     alloc: Global,
