@@ -1,8 +1,9 @@
 -- The exchange of one ask: its run, its reads and its lines.
 --
--- `one_run_to`: after one step of the asked session, each session has run alone to its new state.
--- `one_log`: the log of one exchange is its reads, each with the session that was asked.
--- `one_line`: the output of one exchange is the lines of its reply.
+-- `one_run_to`: where session s takes one step to a state, each session has run alone, by its part of this one
+--   exchange, to its state, which is the old one but for s.
+-- `one_log`: the log of one exchange is the list of its reads, each with the number of the session that was asked.
+-- `one_line`: the output of one exchange is the lines of its reply, under the number of the session that was asked.
 use Rattle.std.proofs.Common.{◌≡◌, ℕ, List, [], ◌∷◌, Bool, true, false, nat_eq, cond, eqb-true}
 use Rattle.std.proofs.Common.{append-nil, refl, subst}
 use Rattle.spec_board.specs.Reads.{ExactRead}
@@ -17,7 +18,8 @@ use Rattle.spec_server.specs.ScriptOut.{script_out}
 use Rattle.spec_server.proofs.RunLemmas.{updated}
 use Rattle.lp_script.proofs.OneMore.{exchange_of}
 
--- a step of the session that is asked
+-- from its state in `old` the session that is asked takes one step alone to the state `new`, with these reads and this
+-- reply
 abbrev pub StepAt : ℕ → (ℕ → State) → Asked ExactAsk → List ExactRead → ExactReply → State → Type 0
 StepAt places old asked reads reply new = AloneStep places (old asked.session) asked.ask reads reply new
 

@@ -2,7 +2,8 @@
 --
 -- `not_equal`: numbers that a comparison finds different are different.
 -- `last_first`: the reverse of a list ends with its first element.
--- `open_more`: a part with room for one reply more may hold one request more before its turn.
+-- `open_more`: a part with room for one reply more may hold one request more, of a session of at most 64, before its
+--   turn.
 use Rattle.std.proofs.Common.{◌≡◌, ◌≢◌, ℕ, ◌+◌, ◌<◌, ◌≤◌, ◌%◌, List, [], ◌∷◌, ◌++◌, Bool, true, false, nat_eq, cond}
 use Rattle.std.proofs.Common.{Some}
 use Rattle.std.proofs.Common.{length, map, reverse, set, get_or, eqb-true, eq-eqb, refl, ap, sym, ◌∙◌, subst, arith}
@@ -43,9 +44,12 @@ pushed_same xs ys x y e =
 
 module _ (n : ℕ) (workers : List Part) (all : length workers ≡ n) (asked : Asked ExactAsk) (some : 0 < n)
     (w new : Part) (is : w ≡ get_or workers (asked.session % n) w) where
+  -- the worker of a session is one of the workers
   within : asked.session % n < length workers
   within = omega (arith, some, all)
 
+  -- where asks are dealt to workers, and one more ask is put behind those of its session's worker, that ask and the
+  -- others are dealt
   pub dealt_more : (asks : List (Asked ExactAsk)) → new.asks.items ≡ w.asks.items ++ asked ∷ [] →
       AreDealt n asks workers → AreDealt n (asked ∷ asks) (set workers (asked.session % n) new)
   dealt_more asks holds dealt i d l = by (nat_eq (asked.session % n) i) refl
@@ -82,7 +86,8 @@ open_more part new asked sessions solves holds replies room low opened = record 
       (All-nil (λ (a : Asked ExactAsk). a.session ≤ 64))));
 }
 
--- where the asks are dealt that were popped so far
+-- the requests popped so far from the end of all are dealt to the parts, and those in `left` are not; `sessions` has
+-- the sessions of the popped ones, the last one first
 pub record Dealing (n : ℕ) (all left : List (Asked ExactAsk)) (sessions : List ℕ) (new : List Part) : Type 0 where
   pub popped : List (Asked ExactAsk)
   pub split : all ≡ left ++ popped
@@ -95,9 +100,12 @@ pub record Dealing (n : ℕ) (all left : List (Asked ExactAsk)) (sessions : List
 module _ (n : ℕ) (all left : List (Asked ExactAsk)) (sessions : List ℕ) (now : List Part) (some : 0 < n)
     (so : Dealing n all left sessions now) (rest : List (Asked ExactAsk)) (asked : Asked ExactAsk)
     (popped : left ≡ rest ++ asked ∷ []) where
+  -- the sessions of the requests that are left but for the last one, and of the last one, are at most 64
   low_now : All (λ (a : Asked ExactAsk). a.session ≤ 64) rest × (asked.session ≤ 64)
   low_now = All-pop (λ (a : Asked ExactAsk). a.session ≤ 64) left rest (Some asked) popped so.low
 
+  -- where some asks are dealt, and the last one that is left is put behind those of its session's worker, all but the
+  -- ones before it are dealt
   pub deal_more : (w new : Part) → w ≡ get_or now (asked.session % n) w →
       new.asks.items ≡ w.asks.items ++ asked ∷ [] → new.replies.items ≡ w.replies.items →
       new.sessions ≡ w.sessions → new.solves ≡ w.solves → new.replies.len + new.asks.len ≤ new.replies.cap →
@@ -117,7 +125,8 @@ module _ (n : ℕ) (all left : List (Asked ExactAsk)) (sessions : List ℕ) (now
 
 -- ---- replies
 
--- what is collected of exchanges, after so many of the sessions
+-- the replies of the first k of these exchanges were collected, in order, and the workers still hold those of the
+-- others
 pub record Collecting (n k : ℕ) (workers : List Part) (replies : List ExactReply) (exchanges : List Exchange) :
     Type 0 where
   pub done : List Exchange
@@ -127,6 +136,7 @@ pub record Collecting (n k : ℕ) (workers : List Part) (replies : List ExactRep
   pub replied : replies ≡ map (λ (x : Exchange). x.reply) done
   pub held : AreHeld n rest workers
 
+-- the list of exchanges begins with one of this session
 record NextOne (session : ℕ) (rest : List Exchange) : Type 0 where
   next : Exchange
   more : List Exchange
@@ -156,20 +166,25 @@ module _ (n : ℕ) (workers : List Part) (all : length workers ≡ n) (session :
     (is : w ≡ get_or workers (session % n) w) (sessions : List ℕ) (k : ℕ) (l : k < length sessions)
     (read : session ≡ get_or sessions k 0) (exchanges : List Exchange) (replies : List ExactReply)
     (are : map (λ (x : Exchange). x.session) exchanges ≡ sessions) (so : Collecting n k workers replies exchanges) where
+  -- the next exchange to be collected is of the session that was read
   its : NextOne session so.rest
   its = subst (λ s. NextOne s so.rest) (sym read)
       (next_one so.done so.rest sessions k 0 so.many
       (ap (map (λ (x : Exchange). x.session)) (sym so.all) ∙ are) l)
 
+  -- the exchanges of worker i behind the next one
   own : ℕ → List Exchange
   own i = exchanges_of_worker n i its.more
 
+  -- the workers hold the replies of the next exchange and of those behind it
   rest_held : AreHeld n (its.next ∷ its.more) workers
   rest_held = subst (λ (rest : List Exchange). AreHeld n rest workers) its.is so.held
 
+  -- the next exchange is worker i's where its session's number has the remainder i
   picked : (i : ℕ) → nat_eq (session % n) i ≡ nat_eq (its.next.session % n) i
   picked i = ap (λ s. nat_eq (s % n) i) (sym its.of_session)
 
+  -- the replies that the next session's worker holds end with the reply of the next exchange
   its_worker : w.replies.items ≡ reverse (map (λ (x : Exchange). x.reply) (own (session % n))) ++ its.next.reply ∷ []
   unfolding its own
   its_worker =
@@ -179,7 +194,7 @@ module _ (n : ℕ) (workers : List Part) (all : length workers ≡ n) (session :
       (sym (picked (session % n)) ∙ eq-eqb (session % n) (session % n) refl)
       ∙ last_first its.next.reply (map (λ (x : Exchange). x.reply) (own (session % n)))
 
-  -- its worker has a reply
+  -- the worker of the next session holds at least one reply
   pub has_one : 0 < length w.replies.items
   has_one =
       let e = ap length its_worker in
@@ -187,11 +202,14 @@ module _ (n : ℕ) (workers : List Part) (all : length workers ≡ n) (session :
       omega (arith, e, f)
 
   module _ (new : Part) (reply : ExactReply) (popped : w.replies.items ≡ new.replies.items ++ reply ∷ []) where
+    -- the reply that was popped is that of the next exchange, and the replies that are left are those of the worker's
+    -- exchanges behind it
     both : (new.replies.items ≡ reverse (map (λ (x : Exchange). x.reply) (own (session % n))))
         × (reply ≡ its.next.reply)
     both = pushed_same new.replies.items (reverse (map (λ (x : Exchange). x.reply) (own (session % n)))) reply
         its.next.reply (sym popped ∙ its_worker)
 
+    -- once the next session's worker has given its newest reply, the workers hold the replies of the exchanges behind
     held_more : AreHeld n its.more (set workers (session % n) new)
     unfolding its own
     held_more i d h = by (nat_eq (session % n) i) refl
@@ -213,6 +231,8 @@ module _ (n : ℕ) (workers : List Part) (all : length workers ≡ n) (session :
             ∙ ap (λ t. reverse (map (λ (x : Exchange). x.reply) (cond t (its.next ∷ own i) (own i))))
             (sym (picked i) ∙ e)
 
+    -- where the replies of k exchanges were collected, and the newest one of the next session's worker is taken, those
+    -- of k + 1 are collected
     pub collected_more : Collecting n (k + 1) (set workers (session % n) new) (replies ++ reply ∷ []) exchanges
     collected_more = record {
       done = so.done ++ its.next ∷ [];

@@ -34,6 +34,7 @@ module _ (places : ℕ) where
     pub asks : map asked_in (exchanges ++ others) ≡ asks_from Numbered Between lines
     pub runs : RunFits places (exchanges ++ others)
 
+  -- the exchanges of the lines so far are a run by one worker
   pub runs_by_one : {exchanges : List Exchange} {lines : List (Line (List ℕ))} {states : ℕ → State}
       {now : List ExactPlace} → IsSoFar exchanges lines states now → RunsBy 1 places exchanges
   runs_by_one {exchanges} {lines} {states} {now} so =
@@ -49,6 +50,7 @@ module _ (places : ℕ) where
       subst (λ (xs : List Exchange). AloneRun places opening xs last) (sym (of_session-append session exchanges others))
       (AloneRun-append places opening middle last (of_session session exchanges) (of_session session others) first rest)
 
+  -- where places answer the log of exchanges, and then that of others, they answer the log of both
   played_more : (exchanges others : List Exchange) (now after : List ExactPlace) →
       Plays places [] (log_of exchanges) now → Plays places now (log_of others) after →
       Plays places [] (log_of (exchanges ++ others)) after
@@ -56,7 +58,7 @@ module _ (places : ℕ) where
       subst (λ (log : List Logged). Plays places [] log after) (sym (log_of-append exchanges others))
       (Plays-append places [] now after (log_of exchanges) (log_of others) first rest)
 
-  -- more lines may be answered
+  -- where these are the exchanges of the lines so far, there are more exchanges for the asks of any more lines behind
   pub goes_on : (exchanges : List Exchange) (lines more : List (Line (List ℕ))) (states : ℕ → State)
       (now : List ExactPlace) → IsSoFar exchanges lines states now → GoesOn exchanges (lines ++ more)
   goes_on exchanges lines more states now so =
@@ -93,7 +95,8 @@ pending_more lines more between =
 module _ (places : ℕ) (exchanges : List Exchange) (lines : List (Line (List ℕ))) (states : ℕ → State)
     (now : List ExactPlace) (so : IsSoFar places exchanges lines states now)
     (between : pending_after Numbered Between lines ≡ Between) (more : List (Line (List ℕ))) where
-  -- the exchanges with those of more lines
+  -- where others are exchanges of the requests of more lines, from the states and places so far, all of them are the
+  -- exchanges of all lines
   pub so_far_more : (others : List Exchange) (new : ℕ → State) (after : List ExactPlace) →
       map asked_in others ≡ asks_from Numbered Between more →
       ((session : ℕ) → AloneRun places (states session) (of_session session others) (new session)) →
@@ -108,7 +111,7 @@ module _ (places : ℕ) (exchanges : List Exchange) (lines : List (Line (List �
     played = played_more places exchanges others now after so.played played;
   }
 
-  -- more lines that complete no ask
+  -- where more lines complete no request, the exchanges so far are those of all lines
   pub so_far_none : asks_from Numbered Between more ≡ [] → IsSoFar places exchanges (lines ++ more) states now
   so_far_none none = record {
     asks = so.asks

@@ -53,15 +53,17 @@ swapped a b c =
 -- ---- the reads of all, worker by worker
 
 module _ (n : ℕ) where
-  -- those of so many workers from this one on
+  -- the reads in the exchanges of so many workers, from worker `from` on, one worker after the other
   abbrev by_worker : ℕ → ℕ → List Exchange → List ExactRead
   by_worker from zero xs = []
   by_worker from (suc m) xs = reads_in_all (exchanges_of_worker n from xs) ++ by_worker (suc from) m xs
 
   module _ (x : Exchange) (xs : List Exchange) where
+    -- the worker of the first exchange
     abbrev own : ℕ
     own = x.session % n
 
+    -- an exchange of another worker is none of the exchanges of worker `from`
     other_one : (from : ℕ) → own ≢ from → exchanges_of_worker n from (x ∷ xs) ≡ exchanges_of_worker n from xs
     other_one from other = by (nat_eq own from) refl
       where
@@ -70,10 +72,12 @@ module _ (n : ℕ) where
         by true e = absurd (other (eqb-true own from e))
         by false e = refl
 
+    -- an exchange of worker `from` stands first among the exchanges of this worker
     its_one : (from : ℕ) → own ≡ from → exchanges_of_worker n from (x ∷ xs) ≡ x ∷ exchanges_of_worker n from xs
     its_one from e =
         ap (λ t. cond t (x ∷ exchanges_of_worker n from xs) (exchanges_of_worker n from xs)) (eq-eqb own from e)
 
+    -- an exchange of a worker below `from` adds no read to those of the m workers from there on
     before_them : (from m : ℕ) → own < from → by_worker from m (x ∷ xs) ≡ by_worker from m xs
     before_them from zero l = refl
     before_them from (suc m) l =
@@ -81,12 +85,15 @@ module _ (n : ℕ) where
         (other_one from (λ e. omega (arith, l, e)))
         ∙ ap (λ rs. reads_in_all (exchanges_of_worker n from xs) ++ rs) (before_them (suc from) m (omega (arith, l)))
 
+    -- what worker `from` reads in the exchanges behind the first one
     abbrev its : ℕ → List ExactRead
     its from = reads_in_all (exchanges_of_worker n from xs)
 
+    -- what the m workers behind `from` read in the exchanges behind the first one
     abbrev later : ℕ → ℕ → List ExactRead
     later from m = by_worker (suc from) m xs
 
+    -- an exchange of one of the m workers from `from` on adds its reads to theirs, in some order
     among_them : (from m : ℕ) → from ≤ own → own < from + m →
         IsPermutation (x.reads ++ by_worker from m xs) (by_worker from m (x ∷ xs))
     among_them from zero l h = absurd (omega (arith, l, h))
@@ -113,6 +120,8 @@ module _ (n : ℕ) where
             (IsPermutation-append_right (its from) (x.reads ++ later from m) (by_worker (suc from) m (x ∷ xs))
             (more other)))
 
+  -- the reads of exchanges are, in some order, those of the first worker's exchanges, then those of the second's, and
+  -- so on
   pub by_workers : (xs : List Exchange) → 0 < n → IsPermutation (reads_in_all xs) (by_worker 0 n xs)
   by_workers [] some = subst (IsPermutation []) (sym (none 0 n)) (IsPermutation-refl [])
     where
@@ -147,6 +156,8 @@ pub record AllServed (board : Board) (n : ℕ) (asks : List (Asked ExactAsk)) (w
 
 module _ {C : Type 0} (is_ready : C → Part → Type 0) (shared : C) (board : Board) (n : ℕ)
     (asks : List (Asked ExactAsk)) (old new : List (Worker Part)) where
+  -- where all workers took their turns from the parts to which the asks were dealt, all asks were served over the
+  -- shared board
   pub served_all : (parts : List Part) → jobs_of old ≡ parts → length parts ≡ n → length new ≡ length old →
       AreDealt n asks parts → TakeTurns is_ready (λ c. Took) shared board old new → AllServed board n asks new
   served_all parts are many same dealt turns = record {
@@ -182,7 +193,8 @@ none_past n i (a ∷ asks) some past = by (nat_eq (a.session % n) i) refl (none_
 
 module _ (board : Board) (n : ℕ) (asks : List (Asked ExactAsk)) (workers : List (Worker Part)) (some : 0 < n)
     (so : AllServed board n asks workers) where
-  -- what a worker had
+  -- worker i has had these exchanges: each session runs alone in them, their reads are those of its pass, in order and
+  -- whole, and it holds their replies
   pub record Had (i : ℕ) (xs : List Exchange) : Type 0 where
     pub alone : RunAlone board.places xs
     pub ordered : InPairs AreInOrder (reads_in_all xs)
@@ -190,14 +202,17 @@ module _ (board : Board) (n : ℕ) (asks : List (Asked ExactAsk)) (workers : Lis
     pub reads : (d : Worker Part) → reads_of (get_or workers i d).pass.view ≡ reads_in_all xs
     pub whole : AllByRecursion IsWhole (reads_in_all xs)
 
+  -- exchanges of the requests of worker i, and what holds of them if there is such a worker
   pub record Share (i : ℕ) : Type 0 where
     pub exchanges : List Exchange
     pub asked : map asked_in exchanges ≡ asks_of_worker n i asks
     pub had : i < n → Had i exchanges
 
+  -- the first worker
   one : Worker Part
   one = first_of workers (subst (λ m. 0 < m) (sym so.many) some)
 
+  -- the exchanges that worker i has had, for i below the number of workers
   part_of_worker : (i : ℕ) → i < n → Share i
   part_of_worker i l =
       let w = get_or workers i one in
@@ -219,6 +234,7 @@ module _ (board : Board) (n : ℕ) (asks : List (Asked ExactAsk)) (workers : Lis
         };
       }
 
+  -- the exchanges that worker i has had; none from the number of workers on
   pub part : (i : ℕ) → Share i
   part i =
       ⊎_elim (λ (l : i < n). part_of_worker i l)
@@ -229,17 +245,21 @@ module _ (board : Board) (n : ℕ) (asks : List (Asked ExactAsk)) (workers : Lis
       })
       (cases_lt i n)
 
+  -- the exchanges of all workers stand in one list, in the order of the requests
   pub all : Interleaves n asks (λ i. (part i).exchanges)
   all = interleaved n asks (λ i. (part i).exchanges) (λ i. (part i).asked)
 
+  -- the exchanges of all workers, in the order of the requests
   abbrev pub xs : List Exchange
   xs = all.exchanges
 
+  -- each worker has had the exchanges that are its own among all
   had_of : (i : ℕ) → i < n → Had i (exchanges_of_worker n i xs)
   had_of i l = subst (Had i) (sym (all.parts i)) ((part i).had l)
 
   -- ---- the replies
 
+  -- the sessions of all exchanges are those of the asks, in their order
   sessions_so : map (λ (x : Exchange). x.session) xs ≡ map (λ (a : Asked ExactAsk). a.session) asks
   sessions_so = by xs ∙ ap (map (λ (a : Asked ExactAsk). a.session)) all.asked
     where
@@ -248,6 +268,7 @@ module _ (board : Board) (n : ℕ) (asks : List (Asked ExactAsk)) (workers : Lis
       by [] = refl
       by (y ∷ ys) = ap (λ ss. y.session ∷ ss) (by ys)
 
+  -- the workers hold the replies of the exchanges, for the sessions of the asks in reverse
   pub replies_held : (sessions : List ℕ) → sessions ≡ reverse (map (λ (a : Asked ExactAsk). a.session) asks) →
       HoldReplies n sessions (jobs_of workers) (reverse xs)
   replies_held sessions are = record {
@@ -264,6 +285,8 @@ module _ (board : Board) (n : ℕ) (asks : List (Asked ExactAsk)) (workers : Lis
 
   -- ---- the reads
 
+  -- where each pass has read what its worker's exchanges read, all passes have read what the workers read, one after
+  -- the other
   passes_read : (passes : List Known) (from : ℕ) →
       ((i : ℕ) (d : Known) → i < length passes →
       reads_of (get_or passes i d).view ≡ reads_in_all (exchanges_of_worker n (i + from) xs)) →
@@ -277,9 +300,11 @@ module _ (board : Board) (n : ℕ) (asks : List (Asked ExactAsk)) (workers : Lis
       (λ i d l. subst (λ k. reads_of (get_or passes i d).view ≡ reads_in_all (exchanges_of_worker n k xs))
       (let e : suc i + from ≡ i + suc from = omega arith in e) (each (suc i) d (omega (arith, l)))))
 
+  -- the pass of a worker
   abbrev pass : Worker Part → Known
   pass w = w.pass
 
+  -- the passes of the workers have read what the workers' exchanges read
   reads_so : reads_of_all (passes_of workers) ≡ by_worker n 0 n xs
   reads_so =
       passes_read (passes_of workers) 0
@@ -292,9 +317,11 @@ module _ (board : Board) (n : ℕ) (asks : List (Asked ExactAsk)) (workers : Lis
 
   -- ---- one order of all reads
 
+  -- there are as many passes as workers
   many_passes : length (passes_of workers) ≡ n
   many_passes = length-map workers pass ∙ so.many
 
+  -- the log of each worker is that of its pass
   its_log : (i : ℕ) → i < n → IsLogOf board.places n i (get_or workers i one).pass (logs_of n xs i)
   its_log i l =
       let its = so.each i one l in
@@ -307,6 +334,7 @@ module _ (board : Board) (n : ℕ) (asks : List (Asked ExactAsk)) (workers : Lis
         were_true = its.hired.were_true;
       }
 
+  -- the log of the worker at i in the list of passes is that of the pass there
   its_log_at : (i : ℕ) (d : Known) → i < length (passes_of workers) →
       IsLogOf board.places (length (passes_of workers)) i (get_or (passes_of workers) i d) (logs_of n xs i)
   its_log_at i d l =
@@ -317,19 +345,24 @@ module _ (board : Board) (n : ℕ) (asks : List (Asked ExactAsk)) (workers : Lis
 
   module _ (one_log : IsOneLog (notes_of_all (passes_of workers)))
       (backed_passes : AreBacked (reads_of_all (passes_of workers))) where
+    -- the reads of all exchanges are those of all passes, in some order
     moved : IsPermutation (reads_in_all xs) (reads_of_all (passes_of workers))
     moved = subst (IsPermutation (reads_in_all xs)) (sym reads_so) (by_workers n xs some)
 
+    -- the reads of all exchanges are backed
     backed : AreBacked (reads_in_all xs)
     backed =
         any_order (reads_of_all (passes_of workers)) (reads_in_all xs)
         (IsPermutation-sym (reads_in_all xs) (reads_of_all (passes_of workers)) moved) backed_passes
 
+    -- the logs of all workers have one order in which the places answer them
     one_order : HaveOneOrder board.places n (logs_of n xs)
     one_order =
         subst (λ m. HaveOneOrder board.places m (logs_of n xs)) many_passes
         (all_played board.places (passes_of workers) (logs_of n xs) its_log_at one_log backed_passes)
 
+    -- where the notes of all passes are one log and their reads are backed, the replies of the exchanges answer all
+    -- asks
     pub answers_all : (replies : List ExactReply) →
         replies ≡ reverse (map (λ (x : Exchange). x.reply) (reverse xs)) → AnswersAll n board.places asks replies
     answers_all replies are = record {
@@ -346,13 +379,16 @@ module _ (board : Board) (n : ℕ) (asks : List (Asked ExactAsk)) (workers : Lis
 module _ {C : Type 0} (is_ready : C → Part → Type 0) (shared : C) (places n : ℕ) (asks : List (Asked ExactAsk))
     (parts news : List Part) (took : TookTurns is_ready (λ c. Took) shared places parts news) (some : 0 < n)
     (many : length parts ≡ n) (dealt : AreDealt n asks parts) where
+  -- all asks were served once the workers took their turns
   served : AllServed took.board n asks took.after
   served = served_all is_ready shared took.board n asks took.before took.after parts took.jobs_before many took.many
       dealt took.turns
 
+  -- the exchanges that the workers had, in the order of the requests, the last one first
   pub had : List Exchange
   had = reverse (xs took.board n asks took.after some served)
 
+  -- after their turns the workers hold the replies of what they had, for the sessions of the asks in reverse
   pub had_held : (sessions : List ℕ) → sessions ≡ reverse (map (λ (a : Asked ExactAsk). a.session) asks) →
       HoldReplies n sessions news had
   unfolding had
@@ -360,6 +396,7 @@ module _ {C : Type 0} (is_ready : C → Part → Type 0) (shared : C) (places n 
       subst (λ ps. HoldReplies n sessions ps (reverse (xs took.board n asks took.after some served))) took.jobs_after
       (replies_held took.board n asks took.after some served sessions are)
 
+  -- after the turns of all workers, the replies of what they had answer all asks
   pub all_answered : (replies : List ExactReply) → replies ≡ reverse (map (λ (x : Exchange). x.reply) had) →
       AnswersAll n places asks replies
   unfolding had

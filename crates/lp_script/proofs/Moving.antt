@@ -1,8 +1,8 @@
 -- What the run of a script has read and written where it halts, by the exchanges of the lines that were read.
 --
--- `whole_front`: the output of exchanges is a prefix of itself.
+-- `whole_front`: the output of exchanges is a prefix of the output of the same exchanges.
 -- `stops_so`: a run that a write or want of memory halts ends so, whatever it has moved.
--- `nothing`: a run that reads nothing and writes nothing is a run of no exchanges.
+-- `nothing`: a run that reads nothing and writes nothing has moved what no exchanges move.
 -- `ends_as`: a run ends with a result that equals the one it ends with.
 use Rattle.std.proofs.Common.{◌≡◌, ℕ, ◌^◌, ◌<◌, ◌⊎◌, take, List, [], ◌++◌, length, map, Result, Err}
 use Rattle.std.proofs.Common.{ap, sym, ◌∙◌, append_assoc, append-nil, refl, inl, inr}
@@ -60,6 +60,8 @@ whole_front exchanges = ([], append-nil (script_out exchanges))
 module _ {workers places : ℕ} {left_before left_after taken_before taken_after : Option (List ℕ)}
     (exchanges : List Exchange) (lines : List (Line (List ℕ))) (states : ℕ → State) (now : List ExactPlace)
     (so : IsSoFar places exchanges lines states now) where
+  -- where the output so far is a prefix of that of the exchanges, and these lines were read with more or less behind
+  -- them, a script's run has moved so
   pub moves_in_part : (more : List (Line (List ℕ))) (written : List ℕ) → Appends taken_before taken_after written →
       IsPrefixOf written (script_out exchanges) →
       ReadsPart left_before left_after (lines ++ more) ⊎ ReadsAll left_before left_after (lines ++ more) →
@@ -103,7 +105,8 @@ module _ {workers places : ℕ} {left_before left_after taken_before taken_after
     (asks : map asked_in exchanges ≡ asks_from Numbered Between lines) (runs : RunsBy workers places exchanges)
     (written : List ℕ) (appended : Appends taken_before taken_after written)
     (front : IsPrefixOf written (script_out exchanges)) where
-  -- the lines that end were read
+  -- where the exchanges are of all lines that end among the bytes read, the run has moved what they say; if it wrote
+  -- their whole output, it has broken off
   pub moves_broken_off : (r : ReadsFront left_before left_after lines) →
       (moves : Moves workers places (streams left_before left_after taken_before taken_after)) ×
       (moves.read ≡ r.read) × (written ≡ script_out exchanges → BreaksOff moves)
@@ -124,7 +127,8 @@ module _ {workers places : ℕ} {left_before left_after taken_before taken_after
         λ whole. record { asks = ended; whole = whole },
       )
 
-  -- all lines were read
+  -- where the exchanges are of all lines of the input, the run has moved what they say; if it wrote their whole output,
+  -- it ends as the lines do
   pub moves_all : ReadsAll left_before left_after lines → (ending : Ending) →
       ending_by (pending_after Numbered Between lines) ≡ ending →
       (moves : Moves workers places (streams left_before left_after taken_before taken_after)) ×
@@ -151,7 +155,8 @@ module _ {workers places : ℕ} {left_before left_after taken_before taken_after
         λ whole. record { ends = record { script = is; whole = whole }; at_end = all.at_end },
       )
 
-  -- the input is longer than may be read
+  -- where the exchanges are of the lines of an input that is longer than may be read, the run has moved what they say;
+  -- if it wrote their whole output, it ends with `Over`
   pub moves_past : (r : ReadsFront left_before left_after lines) → 2 ^ 26 < length r.read →
       (moves : Moves workers places (streams left_before left_after taken_before taken_after)) ×
       (written ≡ script_out exchanges → EndsWith moves script.Over)

@@ -1,8 +1,10 @@
 -- One more ask that a worker answers in its turn.
 --
--- `one_run`: after one step of the asked session, each session has run alone to its new state.
--- `rests`: each of sessions at rest awaits nothing.
--- `rests_more`: sessions at rest stay at rest when one of them is replaced by one that awaits nothing.
+-- `one_run`: where the asked session takes one step alone, and each other session stays, each session has run alone, by
+--   its part of this one exchange, to its new state.
+-- `rests`: where no session awaits anything, the session that is read at k awaits nothing.
+-- `rests_more`: where no session awaits anything, and one is replaced by one that awaits nothing, none of them awaits
+--   anything.
 -- `turn_begins`: a part that is open begins its turn by a fresh pass, and has had no request.
 -- `used_of`: the pass of a worker that has had some requests is used: one of the board's, and with reads in order.
 use Rattle.std.proofs.Common.{◌≡◌, ◌≢◌, ℕ, ◌+◌, ◌<◌, ◌≤◌, List, [], ◌∷◌, ◌++◌, Bool, true, false, nat_eq, cond, length}
@@ -43,6 +45,7 @@ use Rattle.lp_script.proofs.Dealing.{not_equal}
 use Rattle.lp_script.proofs.Together.{states-replicate}
 
 -- ---- one session takes the step, and the others stay
+-- the exchange of this request with these reads and this reply
 abbrev pub exchange_of : Asked ExactAsk → List ExactRead → ExactReply → Exchange
 exchange_of asked reads reply = record { session = asked.session; ask = asked.ask; reads = reads; reply = reply }
 
@@ -75,31 +78,38 @@ rests_more all k new e rest = All-set (λ (s : Standing). s.awaits ≡ Nothing) 
 -- The session that is asked has this standing from now on.
 module _ (all : List Standing) (asked : Asked ExactAsk) (within : asked.session < length all)
     (standing next : Standing) (is : standing ≡ get_or all asked.session standing) where
+  -- the states of the sessions, where the asked session has its next standing
   abbrev changed : List State
   changed = states_of (set all asked.session next)
 
+  -- the states, with the asked session's changed, are the old ones with its new state set
   changed_is : changed ≡ set (states_of all) asked.session next.state
   changed_is = map-set (λ session. session.state) all asked.session next
 
+  -- the state of the standing that was read is that of the asked session among all states
   was : standing.state ≡ state_at (states_of all) asked.session
   was = ap (λ (s : Standing). s.state) is
       ∙ sym (get_or-map (λ session. session.state) all asked.session standing opening within)
 
+  -- the state of the asked session is the new one
   new_state : state_at changed asked.session ≡ next.state
   new_state =
       ap (λ (states : List State). state_at states asked.session) changed_is
       ∙ get_or-set_same (states_of all) asked.session next.state opening
       (subst (λ (n : ℕ). asked.session < n) (sym (length-map all (λ session. session.state))) within)
 
+  -- the state of each other session is as it was
   others : (session : ℕ) → session ≢ asked.session → state_at changed session ≡ state_at (states_of all) session
   others session other =
       ap (λ (states : List State). state_at states session) changed_is
       ∙ get_or-set_other (states_of all) asked.session session next.state opening other
 
   module _ (v w : View) (reply : ExactReply) (adds : AddsStep standing.state asked.ask v reply next.state w) where
+    -- the exchange of the request, with the reads that the pass adds
     abbrev x : Exchange
     x = exchange_of asked adds.reads reply
 
+    -- the asked session takes one step alone, from its state to the new one
     stepped : AloneStep v.places (state_at (states_of all) asked.session) asked.ask adds.reads reply
         (state_at changed asked.session)
     stepped =
@@ -108,9 +118,11 @@ module _ (all : List Standing) (asked : Asked ExactAsk) (within : asked.session 
         (sym new_state) adds.step)
 
     module _ (asks : List (Asked ExactAsk)) (replies : List ExactReply) (had : HaveHad asks replies v all) where
+      -- the exchanges that the worker had before
       abbrev xs : List Exchange
       xs = had.exchanges
 
+      -- each session has run alone, by the exchanges so far and this one, to its state after it
       run_on : (session : ℕ) →
           AloneRun v.places opening (of_session session (xs ++ x ∷ [])) (state_at changed session)
       run_on session =
@@ -121,12 +133,15 @@ module _ (all : List Standing) (asked : Asked ExactAsk) (within : asked.session 
           (one_run v.places (state_at (states_of all)) (state_at changed) asked adds.reads reply stepped others
           session))
 
+      -- the pass has read what the exchanges so far and this one read
       reads_on : reads_of w ≡ reads_in_all (xs ++ x ∷ [])
       reads_on =
           adds.all ∙ ap (λ rs. rs ++ adds.reads) had.reads
           ∙ ap (λ rs. reads_in_all xs ++ rs) (sym (append-nil adds.reads))
           ∙ sym (flat_map-append (λ (y : Exchange). y.reads) xs (x ∷ []))
 
+      -- where a worker has had some asks with their replies, and its session takes one step more over the board, it has
+      -- had the ask with the reply too
       pub had_more : StepCalls v w → Consistent v →
           HaveHad (asks ++ asked ∷ []) (replies ++ reply ∷ []) w (set all asked.session next)
       had_more calls now = record {
@@ -144,6 +159,7 @@ module _ (all : List Standing) (asked : Asked ExactAsk) (within : asked.session 
 -- ---- a worker whose asks and replies alone have changed
 module _ (board : Board) (w new : Worker Part) (pass : new.pass ≡ w.pass) (sessions : new.job.sessions ≡ w.job.sessions)
     (solves : new.job.solves ≡ w.job.solves) where
+  -- a worker that keeps its pass, sessions and solves stays hired
   pub hired_same : IsHired board w → IsHired board new
   hired_same h = record {
     of_board = ap (λ (k : Known). k.board) pass ∙ h.of_board;
@@ -172,6 +188,7 @@ opening_at session =
 unread_reads : (v : View) → v.reads ≡ [] → reads_of v ≡ []
 unread_reads v unread = ap (λ reads. reads_of (record v { reads = reads })) unread
 
+-- a worker in its turn: of the requests that it held, the first ones were served, and it still holds the others
 pub record Turning (board : Board) (held : List (Asked ExactAsk)) (w : Worker Part) : Type 0 where
   pub done : List (Asked ExactAsk)
   pub all : reverse held ≡ done ++ reverse w.job.asks.items
@@ -219,9 +236,11 @@ turn_begins board w opened fresh = record {
 
 module _ (board : Board) (held : List (Asked ExactAsk)) (w : Worker Part) (so : Turning board held w)
     (asked : Asked ExactAsk) (popped : List (Asked ExactAsk)) (split : w.job.asks.items ≡ popped ++ asked ∷ []) where
+  -- the sessions of the requests that are left, and of the one that was popped, are at most 64
   low : All (λ (a : Asked ExactAsk). a.session ≤ 64) popped × (asked.session ≤ 64)
   low = All-pop (λ (a : Asked ExactAsk). a.session ≤ 64) w.job.asks.items popped (Some asked) split so.serving.sessions
 
+  -- where a worker in its turn takes the last ask and replies to it, it is still in its turn, with one ask less
   pub turn_more : (reply : ExactReply) (next : Worker Part) → IsHired board next →
       HaveHad (so.done ++ asked ∷ []) (w.job.replies.items ++ reply ∷ []) next.pass.view next.job.sessions.items →
       next.job.asks.items ≡ popped → next.job.replies.items ≡ w.job.replies.items ++ reply ∷ [] →
@@ -244,9 +263,11 @@ module _ (board : Board) (held : List (Asked ExactAsk)) (w : Worker Part) (so : 
 -- when no ask is left
 module _ (board : Board) (held : List (Asked ExactAsk)) (w : Worker Part) (so : Turning board held w)
     (none : w.job.asks.items ≡ []) where
+  -- where no ask is left, all asks that the worker held are done
   all_done : so.done ≡ reverse held
   all_done = sym (so.all ∙ ap (λ ys. so.done ++ reverse ys) none ∙ append-nil so.done)
 
+  -- where a worker in its turn has no ask left, it has served all asks that it held, in their order
   pub turn_ends : (next : Worker Part) → next.pass ≡ w.pass → next.job.sessions ≡ w.job.sessions →
       next.job.solves ≡ w.job.solves → next.job.replies ≡ w.job.replies → next.job.asks.items ≡ [] →
       next.job.asks.len ≤ w.job.asks.len → IsServing board (reverse held) next

@@ -1,9 +1,12 @@
 -- What the only pass of a board has published.
 --
--- `only_first`: the first pass of a board is its only one.
--- `stands_at`: each place below the number of publications was published, with as many words as a basis.
+-- `only_first`: a pass of a board that knows what a new board's only pass knows, and so has the whole right to the
+--   board, is the only pass of that board.
+-- `stands_at`: where publications are in order, each place below their number was published, with as many words as a
+--   basis.
 -- `owns_all`: a neat pass owns as many places as it published.
--- `all_published`: a pass that owns just the places below n published n times.
+-- `all_published`: where a pass owns as many places as it published, and owns just the places below n, it has published
+--   n times.
 -- `look_rests`: a look publishes nothing, and leaves the publications in order.
 -- `rests_own`: a pass that owns as many places as it published still does later, where it published nothing since.
 use Rattle.std.proofs.Common.{◌≡◌, ℕ, ◌+◌, ◌<◌, ◌≤◌, List, [], ◌∷◌, ◌++◌, length, get_or, refl, sym, ap, ap₂, ◌∙◌}
@@ -47,6 +50,7 @@ only_first board pass places of_board first = record {
 }
 
 -- ---- each place was published with the words that stand there
+-- the reads publish place k with word list k of those that they publish, which has as many words as a basis
 abbrev Stands : List RawRead → ℕ → Type 0
 Stands reads k =
     Has reads (Done k (get_or (published_words reads) k [])) ×
@@ -54,12 +58,14 @@ Stands reads k =
 
 module _ (words : Words) (reads : List RawRead) (j : ℕ) (place : j ≡ length (published_words reads))
     (sized : length words ≡ basis_words) (k : ℕ) where
+  -- a place that was published before stays so with one publication more
   stands_before : k < length (published_words reads) → Stands reads k → Stands (Done j words ∷ reads) k
   stands_before before h =
       let e : get_or (published_words reads ++ words ∷ []) k [] ≡ get_or (published_words reads) k [] =
       get_or_append_left (published_words reads) (words ∷ []) [] k before in
       (inr (subst (λ ws. Has reads (Done k ws)) (sym e) h.0), ap length e ∙ h.1)
 
+  -- the place of one publication more is published with it
   stands_here : k ≡ length (published_words reads) → Stands (Done j words ∷ reads) k
   stands_here here =
       let e : get_or (published_words reads ++ words ∷ []) k [] ≡ words =
@@ -99,6 +105,7 @@ as_many (See j words ∷ reads) = as_many reads
 as_many (Claim j ∷ reads) = as_many reads
 as_many (Lost c ∷ reads) = as_many reads
 
+-- the pass owns as many places as its reads publish
 abbrev pub OwnsAll : View → Type 0
 OwnsAll v = length v.own ≡ length (published_words v.reads)
 

@@ -23,7 +23,8 @@ use Rattle.lp_script.proofs.Sights.{look_sees}
 use Rattle.lp_script.proofs.Puts.{tried, put_reads, put_places, put_played, put_order}
 use Rattle.lp_script.proofs.PublishedWords.{IsSized, step_sized}
 
--- the places answer what a pass reads more, and it is still the only one
+-- from v to u the pass noted more reads, which the places that are done answer one after the other; its publications
+-- are still in order
 pub record Goes (v u : View) : Type 0 where
   pub more : List RawRead
   pub reads : u.reads ≡ more ++ v.reads
@@ -35,6 +36,7 @@ module _ (v u : View) (now : Consistent v) (whole : v.share ≡ 64) (order : Are
     (sized : (k : ℕ) (words : Words) (old : List RawRead) → u.reads ≡ (Done k words ∷ old) ++ v.reads →
     length words ≡ basis_words) where
   -- ---- a look
+  -- a look of the only pass, whose reads u still has, makes reads that go on as the places are
   look_goes : (shape : Words) (look : Look) (w : View) → Looks shape v look w →
       ((r : RawRead) → Has w.reads r → Has u.reads r) → Goes v w
   look_goes shape look w called stay =
@@ -50,6 +52,7 @@ module _ (v u : View) (now : Consistent v) (whole : v.share ≡ 64) (order : Are
       }
 
   -- ---- a look and a put
+  -- a look and then a put of the only pass make reads that go on as the places are
   put_goes : (shape : Words) (look : Look) (w : View) (words : Words) (put : Put) → Looks shape v look w →
       Puts w words put u → Goes v u
   put_goes shape look w words put called puts =
@@ -75,12 +78,14 @@ module _ (v u : View) (now : Consistent v) (whole : v.share ≡ 64) (order : Are
             (since ∙ ap (λ rs. (rs ++ first.more) ++ v.reads) is));
       }
 
+  -- where a look is followed by a put or by nothing, the reads go on as the places are
   may_go : (shape : Words) (look : Look) (w : View) → Looks shape v look w → MayPut w u → Goes v u
   may_go shape look w called (inl e) =
       subst (Goes v) (sym e)
       (look_goes shape look w called (λ r h. subst (λ (x : View). Has x.reads r) (sym e) h))
   may_go shape look w called (inr puts) = put_goes shape look w puts.0 puts.1 called puts.3
 
+  -- the looks and puts of a step make reads that go on as the places are
   calls_go : StepCalls v u → Goes v u
   calls_go (inl e) =
       subst (Goes v) (sym e)
@@ -90,7 +95,8 @@ module _ (v u : View) (now : Consistent v) (whole : v.share ≡ 64) (order : Are
 -- ---- a step
 module _ (before : State) (asked : ExactAsk) (v : View) (replied : ExactReply) (after : State) (u : View)
     (adds : AddsStep before asked v replied after u) where
-  -- the words that it publishes
+  -- where the newest read of a session's step says that place k was done with these words, they are as many as those of
+  -- a basis
   newest_sized : (k : ℕ) (words : Words) (old : List RawRead) → u.reads ≡ (Done k words ∷ old) ++ v.reads →
       length words ≡ basis_words
   newest_sized k words old e =
@@ -99,6 +105,7 @@ module _ (before : State) (asked : ExactAsk) (v : View) (replied : ExactReply) (
       (subst (λ rs. Has rs (read.Done k words)) (reads_since v u (Done k words ∷ old) adds.reads e adds.all)
       (has_newest (Done k words) old))
 
+  -- where the reads of a step go on from those before as the places are, the step shares the places with others
   pub shares_so : Goes v u → SharesStep before asked (sharing_of v) replied after (sharing_of u)
   shares_so goes = record {
     reads = adds.reads;
@@ -112,5 +119,7 @@ module _ (before : State) (asked : ExactAsk) (v : View) (replied : ExactReply) (
     };
   }
 
+  -- where a step of the only, whole pass of a board makes looks and puts, its reads go on from those before as the
+  -- places are
   pub step_goes : StepCalls v u → Consistent v → v.share ≡ 64 → AreInOrder v.reads → Consistent u → Goes v u
   step_goes calls now whole order later = calls_go v u now whole order later newest_sized calls

@@ -1,9 +1,11 @@
 -- Reads of a pass that places which are all done answer one after the other.
 --
--- `reads_since`: the reads that a pass noted since are those that stand behind the older ones.
+-- `reads_since`: where a pass has noted more reads than before, its reads are those of before, and then the new ones in
+--   their order.
 -- `has_newest`: the newest read is among the reads put in order.
 -- `played_on`: places that answer some reads and then others answer both, one after the other.
--- `played_each`: places that answer each read and stay as they are answer all of them, and stay.
+-- `played_each`: where the places answer each of these reads and stay as they are, they answer all of them one after
+--   the other, and stay as they are.
 use Rattle.std.proofs.Common.{◌≡◌, ℕ, List, [], ◌∷◌, ◌++◌, map, refl, sym, ap, ◌∙◌, subst, inl}
 use Rattle.std.specs.Prelude.{reverse}
 use Rattle.std.proofs.lemmas.List.{map-append, reverse-append, append_cancel_left}
@@ -18,6 +20,7 @@ use Rattle.basis_board.specs.PassReads.{exact_read, reads_of}
 use Rattle.lp_script.specs.Sharing.{as_places}
 
 -- ---- reads of a pass, of which the newest stands first
+-- these reads, which stand newest first, put in order with the first one first, as the places' definitions have them
 abbrev pub in_turn : List RawRead → List ExactRead
 in_turn reads = map exact_read (reverse reads)
 
@@ -39,6 +42,8 @@ has_newest r old =
     (has_right (in_turn old) (exact_read r ∷ []) (exact_read r) (inl refl))
 
 -- ---- they are answered, whichever session makes them
+-- whichever session makes them, places that are done with the words `done` answer these reads, the newest of which
+-- stands first, and are then done with the words `next`
 abbrev pub Played : ℕ → List Words → List RawRead → List Words → Type 0
 Played places done reads next =
     (session : ℕ) → Plays places (as_places done) (logged session (in_turn reads)) (as_places next)
@@ -51,7 +56,7 @@ played_on places done middle next old more first second = λ session.
     (Plays-append places (as_places done) (as_places middle) (as_places next) (logged session (in_turn old))
     (logged session (in_turn more)) (first session) (second session))
 
--- a read that changes nothing
+-- whichever session makes this read, places that are done with these words answer it and stay as they are
 abbrev pub Stays : ℕ → List Words → RawRead → Type 0
 Stays places done r = (session : ℕ) → Answers places (as_places done) session (exact_read r) (as_places done)
 

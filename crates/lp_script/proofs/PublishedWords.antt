@@ -20,18 +20,21 @@ use Rattle.spec_server.specs.Step.{how_by, Works, Concludes, Begun, GoesOn, Alon
 use Rattle.basis_board.specs.Board.{Each}
 use Rattle.basis_board.proofs.Totals.{each_append}
 
+-- a publication has as many words as a basis; of other reads nothing is asked
 abbrev pub IsSized : ExactRead → Type 0
 IsSized (Done k words) = length words ≡ basis_words
 IsSized r = Unit {0}
 
 -- ---- a look writes nothing
 module _ (shape : Words) where
+  -- the reads of a look behind a place that it saw publish no words of another size than a basis has
   seen_sized : (k : ℕ) (words : Words) (reads : List ExactRead) (found : Looked) (t : Bool) →
       (SeesDown shape k reads found → Each IsSized reads) →
       SeenBy t k words reads found (SeesDown shape k reads found) → Each IsSized reads
   seen_sized k words reads found true down s = subst (Each IsSized) (sym s.1) tt
   seen_sized k words reads found false down s = down s.1
 
+  -- the reads of a look that goes down publish no words of another size than a basis has
   down_sized : (k : ℕ) (reads : List ExactRead) (found : Looked) → SeesDown shape k reads found → Each IsSized reads
   down_sized zero reads found d = subst (Each IsSized) (sym d.0) tt
   down_sized (suc k) [] found d = absurd d
@@ -43,6 +46,7 @@ module _ (shape : Words) where
   down_sized (suc k) (Lost c ∷ reads) found d = absurd d
   down_sized (suc k) (Done j words ∷ reads) found d = absurd d
 
+  -- the reads of a look publish no words of another size than a basis has
   look_sized : (reads : List ExactRead) (found : Looked) → LookReads shape reads found → Each IsSized reads
   look_sized reads found l = subst (Each IsSized) (sym l.all) (tt, down_sized l.count l.seen found l.down)
 
@@ -66,11 +70,13 @@ end_sized f (Ended known.Unbounded certificate basis pivots) = tt
 end_sized f (Past p) = tt
 end_sized f Spent = tt
 
+-- the words that a solve goes on to publish; none where it replies at once
 abbrev words_of : Worked → Words
 words_of (Ends replied next) = []
 words_of (Publishes pending) = pending.words
 
 module _ (old : State) (found : Looked) (pending : Pending) where
+  -- the words that a solve goes on to publish, by how it ended, are as many as those of a basis
   worked_sized : (end : ExactSolveEnd) (how : How) (words : Option Words) →
       IfSome words (λ words. length words ≡ basis_words) →
       Publishes pending ≡ worked_with old found end how words → length pending.words ≡ basis_words
@@ -84,6 +90,7 @@ module _ (old : State) (found : Looked) (pending : Pending) where
       by true h = cc
       by false h = ap (λ w. length (words_of w)) h ∙ sized
 
+  -- where the work of a solve goes on to publish words, they are as many as those of a basis
   pending_sized : Works old found (Publishes pending) → length pending.words ≡ basis_words
   pending_sized (inl s) =
       worked_sized s.solved.end (how_by found s.solved.route) (words_of_end s.form s.solved.end)
@@ -92,6 +99,7 @@ module _ (old : State) (found : Looked) (pending : Pending) where
 
 -- ---- a step
 module _ (places : ℕ) (old : State) (reads : List ExactRead) (replied : ExactReply) (new : State) where
+  -- where a look's reads publish words of a basis's size alone, so do those of the whole solve
   concluded_sized : (found : Looked) (worked : Worked) (looked : List ExactRead) → Each IsSized looked →
       Works old found worked → Concludes places old worked looked reads replied new → Each IsSized reads
   concluded_sized found (Ends stated next) looked each works c = subst (Each IsSized) (sym c.0) each
@@ -100,6 +108,7 @@ module _ (places : ℕ) (old : State) (reads : List ExactRead) (replied : ExactR
       (each_append IsSized looked c.tried each
       (put_sized places pending.words c.put c.tried (pending_sized old found pending works) c.puts))
 
+  -- the reads of a step, however it begins, publish words of a basis's size alone
   goes_sized : (begun : Begun) → GoesOn places old begun reads replied new → Each IsSized reads
   goes_sized (step.Answers stated next) g = subst (Each IsSized) (sym g.0) tt
   goes_sized (step.Looks shape) g =

@@ -29,7 +29,7 @@ with_last : (done : List Words) (p : ExactPlace) (words : Words) →
 with_last [] p words = refl
 with_last (w ∷ done) p words = ap (λ ps. place.Done w ∷ ps) (with_last done p words)
 
--- the place after the last one is counted, claimed and written
+-- the reads of a put that counts k places, claims place k and writes these words there, the newest first
 abbrev pub publication : ℕ → Words → List RawRead
 publication k words = Done k words ∷ Claim k ∷ Count k ∷ []
 
@@ -53,6 +53,7 @@ played_publication places k done words e inside =
 
 -- ---- what was read more
 
+-- the reads that a put with this outcome adds to those of the pass, the newest first
 abbrev pub tried : (v w : View) (words : Words) (put : Put) → Puts v words put w → List RawRead
 tried v w words (Published k) p = publication k words
 tried v w words (Full c) p = Count c ∷ []
@@ -70,6 +71,7 @@ put_places v w words (Full c) p = ap (λ (x : View). x.places) p.view
 put_places v w words (Raced e) p = ap (λ (x : View). x.places) p.view
 
 module _ (v w : View) (words : Words) (all : OwnsAll v) (whole : v.share ≡ 64) where
+  -- the places that are done answer the reads of a put by the whole pass, and then are those that are done with it
   pub put_played : (put : Put) (p : Puts v words put w) →
       Played v.places (published_words v.reads) (tried v w words put p) (published_words w.reads)
   put_played (Published k) p =
@@ -89,7 +91,8 @@ module _ (v w : View) (words : Words) (all : OwnsAll v) (whole : v.share ≡ 64)
       ))
   put_played (Raced e) p = absurd (p.not_whole whole)
 
-  -- where words were published, they are as many as those of a basis
+  -- where publications are in order, and what a put by the whole pass published has as many words as a basis, they are
+  -- in order with that put
   pub put_order : (put : Put) (p : Puts v words put w) → AreInOrder v.reads →
       ((k : ℕ) → tried v w words put p ≡ publication k words → length words ≡ basis_words) → AreInOrder w.reads
   put_order (Published k) p order sized =

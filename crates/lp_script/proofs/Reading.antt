@@ -61,16 +61,17 @@ module _ {before now : Option (List ℕ)} {reading : LinesState} {asks : List (A
       ∙ ap (λ zs. asks_from Numbered Between r.lines ++ zs) (sym e)
       ∙ sym (asks_more r.lines passed r.between)
 
+  -- lines that complete no ask leave the asks those of all lines
   asked_none : (passed : List (Line (List ℕ))) → asks_from Numbered Between passed ≡ [] →
       asks ≡ asks_from Numbered Between (r.lines ++ passed)
   asked_none passed none = sym (append-nil asks) ∙ asks_with passed [] none
 
-  -- memory ran out now
+  -- where memory runs out after this reading, some lines were read
   pub reads_till : ReadsSome before now
   reads_till = (r.lines, stops_now r.reads)
 
   module _ {after : Option (List ℕ)} where
-    -- one more ask came
+    -- where one more request is read, the reading goes on with it behind those so far
     pub reading_on : (new : LinesState) (asked : Asked ExactAsk) → TakesAsk Numbered now after reading new asked →
         Reading before after new (asks ++ asked ∷ [])
     reading_on new asked k = record {
@@ -81,7 +82,7 @@ module _ {before now : Option (List ℕ)} {reading : LinesState} {asks : List (A
       numbered = All-push (λ (a : Asked ExactAsk). a.session ≤ 64) asks asked r.numbered k.numbered;
     }
 
-    -- memory ran out on the way to the next one
+    -- where memory runs out as the next request is read, some lines were read
     pub reads_some : (new : LinesState) → TakesPart now after reading new → ReadsSome before after
     reads_some new k = (
       r.lines ++ k.passed,
@@ -93,6 +94,7 @@ module _ {before now : Option (List ℕ)} {reading : LinesState} {asks : List (A
 
     -- ---- no further ask came
 
+    -- where the input ends, the script was read to that end, with the lines passed last
     to_end : (ending : Ending) → (k : TakesEnd Numbered now after reading ending) →
         ReadsToEnd before after (r.lines ++ k.none.passed) ending
     to_end ending k = record {
@@ -100,6 +102,7 @@ module _ {before now : Option (List ℕ)} {reading : LinesState} {asks : List (A
       ends = ap ending_by (pending_more r.lines k.none.passed r.between) ∙ k.ends;
     }
 
+    -- where the input ends after the asks that were read, the script is read with these asks
     pub read_ended : TakesEnd Numbered now after reading Ended → (u : Unit {0}) → IsRead before after asks (Ok u)
     read_ended k u = record {
       lines = r.lines ++ k.none.passed;
@@ -108,6 +111,7 @@ module _ {before now : Option (List ℕ)} {reading : LinesState} {asks : List (A
       numbered = r.numbered;
     }
 
+    -- where the input is cut off in a body, the script is read with the asks so far, and the halt `Cut`
     read_cut : TakesEnd Numbered now after reading Cut → IsRead before after asks (Err halts.Cut)
     read_cut k = record {
       lines = r.lines ++ k.none.passed;
@@ -116,6 +120,7 @@ module _ {before now : Option (List ℕ)} {reading : LinesState} {asks : List (A
       numbered = r.numbered;
     }
 
+    -- where the input is too long, the script is read with the asks so far, and the halt `Over`
     read_past : TakesNone Numbered now after reading (Ok Over) → IsRead before after asks (Err halts.Over)
     read_past k = record {
       lines = r.lines ++ k.passed;
@@ -124,6 +129,7 @@ module _ {before now : Option (List ℕ)} {reading : LinesState} {asks : List (A
       numbered = r.numbered;
     }
 
+    -- where a read fails, the script is read with the asks so far, and the halt `Read`
     read_to_fault : TakesNone Numbered now after reading (Err line_stops.Read) →
         IsRead before after asks (Err halts.Read)
     read_to_fault k = record {
@@ -133,7 +139,8 @@ module _ {before now : Option (List ℕ)} {reading : LinesState} {asks : List (A
       numbered = r.numbered;
     }
 
-    -- something else than want of memory halted the reading
+    -- where something else than want of memory halts the reading, the script is read with the requests so far and that
+    -- halt
     pub read_halted : (new : LinesState) (halt : Halt) → halt ≢ halts.NoMemory →
         TakesNext Numbered now after reading new (Err halt) → IsRead before after asks (Err halt)
     read_halted new halts.Cut other k = read_cut k

@@ -2,7 +2,8 @@
 --
 -- `unanswered`: a run that has only read lines has moved these bytes, and has had no exchange.
 -- `reads_some_of`: where a script was read to any end, some lines of it were read.
--- `one-more-read`: a list that is read item by item is its first items mapped, also after one item more.
+-- `one-more-read`: where a list is f of the first n items, and f of item n is pushed, the list is f of the first n + 1
+--   items.
 use Rattle.std.proofs.Common.{◌≡◌, ◌≢◌, ℕ, ◌<◌, ◌+◌, List, [], ◌∷◌, ◌++◌, length}
 use Rattle.std.proofs.Common.{map, take, drop, get_or, min, Option, Result, Ok, Err, refl}
 use Rattle.std.proofs.Common.{sym, ap, ◌∙◌, append_assoc, append-nil, inl, inr, subst, arith}
@@ -33,7 +34,7 @@ use Rattle.lp_script.proofs.Moving.{moves_in_part, moves_broken_off, moves_all, 
 
 -- ---- the replies as they are written
 
--- those of the first pairs
+-- the lines of the replies of these pairs of a session and a reply, in order
 abbrev pub out_of : List (ℕ × ExactReply) → List ℕ
 out_of pairs = flat_map lines_of_reply pairs
 
@@ -46,26 +47,29 @@ out_more pairs n pair within is =
     ∙ ap (λ zs. out_of (take n pairs) ++ zs) (append-nil (lines_of_reply (get_or pairs n pair)))
     ∙ ap (λ (p : ℕ × ExactReply). out_of (take n pairs) ++ lines_of_reply p) is
 
--- what stands after the first ones
+-- the output of the first n replies and then that of the others is the output of all
 out_rest : (pairs : List (ℕ × ExactReply)) (n : ℕ) → out_of (take n pairs) ++ out_of (drop n pairs) ≡ out_of pairs
 out_rest pairs n =
     sym (flat_map-append lines_of_reply (take n pairs) (drop n pairs)) ∙ ap out_of (take-append-drop n pairs)
 
 module _ (before now : Option (List ℕ)) (pairs : List (ℕ × ExactReply)) (n : ℕ)
     (written : Appends before now (out_of (take n pairs))) where
-  -- the first ones were written
+  -- where the output of the first n pairs was written, a beginning of the output of all pairs was
   pub takes_first : Takes before now (out_of pairs)
   takes_first =
       record { bytes = out_of (take n pairs); front = (out_of (drop n pairs), out_rest pairs n); taken = written }
 
   module _ (after : Option (List ℕ)) (pair : ℕ × ExactReply) (within : n < length pairs)
       (is : get_or pairs n pair ≡ pair) where
+    -- where the output of the first n replies is written, and then the lines of the next one, that of the first n + 1
+    -- is written
     pub appends_more : Appends now after (lines_of_reply pair) → Appends before after (out_of (take (n + 1) pairs))
     appends_more more =
         subst (Appends before after) (sym (out_more pairs n pair within is))
         (Appends-trans before now after (out_of (take n pairs)) (lines_of_reply pair) written more)
 
-    -- a part of the next one was written
+    -- where the output of the first n pairs and a beginning of the next one's was written, a beginning of the output of
+    -- all pairs was
     pub takes_more : Takes now after (lines_of_reply pair) → Takes before after (out_of pairs)
     takes_more part =
         let first : List ℕ = out_of (take n pairs) in
@@ -85,6 +89,8 @@ module _ (before now : Option (List ℕ)) (pairs : List (ℕ × ExactReply)) (n 
 
 -- the pair at which a loop over both stands
 module _ (sessions : List ℕ) (replies : List ExactReply) where
+  -- where n is below the number of sessions and of replies, pair n of their `zip` is the session and the reply that are
+  -- read at n
   pub is_pair : (n session : ℕ) (reply : ExactReply) → n < length sessions → n < length replies →
       session ≡ get_or sessions n session → reply ≡ get_or replies n reply →
       (n < length (zip sessions replies)) × (get_or (zip sessions replies) n (session, reply) ≡ (session, reply))
@@ -97,7 +103,7 @@ module _ (sessions : List ℕ) (replies : List ExactReply) where
             ∙ ap with_reply (sym is_reply),
       )
 
-  -- after the last one
+  -- the output of all pairs of a session and a reply, as many as the shorter list has items, is that of the two lists
   pub all_out : (n : ℕ) → n ≡ min (length sessions) (length replies) →
       out_of (take n (zip sessions replies)) ≡ replies_out sessions replies
   all_out n is =
@@ -144,10 +150,11 @@ reads_some_of (Err halts.NoMemory) read = absurd read.reads
 
 module _ {workers places : ℕ} {asks : List (Asked ExactAsk)} (many : workers ≢ 1) (replies : List ExactReply)
     (answers : AnswersAll workers places asks replies) where
+  -- the exchanges of the answers are a run by so many workers, of which there is not one
   abbrev runs : RunsBy workers places answers.exchanges
   runs = record { many = answers.fits; one = λ one. absurd (many one) }
 
-  -- what is written of them
+  -- where the sessions are those of the asks, the output of their replies is that of the answers' exchanges
   out_is : (sessions : List ℕ) → sessions ≡ map (λ (asked : Asked ExactAsk). asked.session) asks →
       replies_out sessions replies ≡ script_out answers.exchanges
   out_is sessions are =
@@ -158,7 +165,8 @@ module _ {workers places : ℕ} {asks : List (Asked ExactAsk)} (many : workers �
       ∙ replies_of answers.exchanges
 
   module _ {before after taken now : Option (List ℕ)} where
-    -- the replies were written, in part or whole
+    -- where a beginning of the output of the answers was written, the run has moved what was read and that; if it is
+    -- the whole output, the run ends as the reading did
     answered : (end : Result (Unit {0}) Halt) → IsRead before after asks end → (written : List ℕ) →
         Appends taken now written → IsPrefixOf written (script_out answers.exchanges) →
         (moves : Moves workers places (streams before after taken now)) ×
@@ -182,15 +190,19 @@ module _ {workers places : ℕ} {asks : List (Asked ExactAsk)} (many : workers �
   module _ {before after : Option (List ℕ)} (end : Result (Unit {0}) Halt) (read : IsRead before after asks end)
       (sessions : List ℕ) (are : sessions ≡ map (λ (asked : Asked ExactAsk). asked.session) asks)
       (written : List ExactReply) (same : written ≡ replies) where
+    -- the output of the replies that are written is that of the answers' exchanges
     all_is : replies_out sessions written ≡ script_out answers.exchanges
     all_is = ap (λ (rs : List ExactReply). replies_out sessions rs) same ∙ out_is sessions are
 
     module _ {taken now : Option (List ℕ)} where
+      -- where a part of the replies' output is written, the run has moved what was read and that part
       pub replied_in_part : Takes taken now (replies_out sessions written) →
           Moves workers places (streams before after taken now)
       replied_in_part part =
           (answered end read part.bytes part.taken (part.front.0, part.front.1 ∙ all_is)).0
 
+      -- where the whole output of the replies is written, the run has moved what was read and it, and ends as the
+      -- reading did
       pub replied_whole : Appends taken now (replies_out sessions written) →
           (moves : Moves workers places (streams before after taken now)) × EndsSo moves end
       replied_whole all =

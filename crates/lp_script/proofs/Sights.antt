@@ -30,26 +30,32 @@ place_done (words ∷ done) (suc n) l = place_done done n (omega (arith, l))
 -- what a pass had published when it looked, and what it has read later
 module _ (v u : View) (now : Consistent v) (order : AreInOrder v.reads) (later : Consistent u)
     (stay : (r : RawRead) → Has v.reads r → Has u.reads r) where
+  -- the words that the pass had published
   abbrev done : List Words
   done = published_words v.reads
 
   -- ---- one place
   module _ (k : ℕ) (inside : k < length (published_words v.reads)) where
+    -- the words that the pass had published in place k
     abbrev here : Words
     here = get_or (published_words v.reads) k []
 
+    -- the reads of the pass have the publication of place k with these words
     published : Has v.reads (Done k here)
     published = (stands_at v.reads order k inside).0
 
+    -- the words published in place k are 49
     size : length here ≡ 49
     size = (stands_at v.reads order k inside).1
 
+    -- a place that the pass had published was seen, so it is not among those that were not
     not_open : Each (λ p. p.0 ≢ k) v.seen → ⊥
     not_open unseen =
         let stands : StandsIn v.seen (Done k here) =
         each_has (StandsIn v.seen) v.reads (Done k here) now.neat.stands published in
         each_has (λ (p : ℕ × List ℕ). p.0 ≢ k) v.seen (k, stands.0) unseen stands.1 refl
 
+    -- words that are seen of a published place agree with those that were published, as far as both go
     agrees : (words : Words) → Has u.reads (See k words) → (i : ℕ) → i < length words → i < length here →
         slice_index words i ≡ slice_index here i
     agrees words seen i l m =
@@ -64,6 +70,7 @@ module _ (v u : View) (now : Consistent v) (order : AreInOrder v.reads) (later :
         each_has (Agree (k, words)) u.seen (k, stands.0) first stands.1 refl i l (omega (arith, m, long))
         ∙ sym (each_has (Agree (k, here)) u.seen (k, stands.0) second stands.1 refl i m (omega (arith, m, long)))
 
+    -- 25 words that are seen of a published place are the first 25 of those that were published
     front_is : (words : Words) → length words ≡ 25 → Has u.reads (See k words) → words ≡ front here
     front_is words few seen =
         ext_get_or 0 words (front here) (omega (arith, few, size, length-take 25 here))
@@ -71,12 +78,13 @@ module _ (v u : View) (now : Consistent v) (order : AreInOrder v.reads) (later :
         let m : i < 25 = omega (arith, l, few) in
         agrees words seen i l (omega (arith, m, size)) ∙ sym (get_or-take 25 here i 0 m))
 
+    -- 49 words that are seen of a published place are those that were published
     all_is : (words : Words) → length words ≡ 49 → Has u.reads (See k words) → words ≡ here
     all_is words all seen =
         ext_get_or 0 words here (omega (arith, all, size))
         (λ i l. agrees words seen i l (omega (arith, l, all, size)))
 
-    -- it is passed over
+    -- the read by which a look passes over a published place is answered by the done places, which stay as they are
     stays_other : (shape : Words) (r : RawRead) → SeesOther shape k r → OpenUnseen v.seen r → Has u.reads r →
         Stays v.places done r
     stays_other shape (Open j) o unseen seen =
@@ -92,15 +100,17 @@ module _ (v u : View) (now : Consistent v) (order : AreInOrder v.reads) (later :
     stays_other shape (Lost c) o unseen seen = absurd o
     stays_other shape (Done j words) o unseen seen = absurd o
 
-    -- it is found
+    -- the read of all 49 words of a published place is answered by the done places, which stay as they are
     stays_found : (words : Words) → length words ≡ 49 → Has u.reads (See k words) → Stays v.places done (See k words)
     stays_found words all seen = λ session. (here, place_done done k inside, inl (all_is words all seen), refl)
 
   -- ---- from the newest down
+  -- where the places passed by on the way from c end at k, k is at most c
   down_inside : (shape : Words) (c k : ℕ) (added : List RawRead) → Passed shape c k added → k ≤ c
   down_inside shape c k [] p = omega (arith, p)
   down_inside shape c k (r ∷ added) p = omega (arith, down_inside shape c (k + 1) added p.1)
 
+  -- the reads that pass by published places are answered by the done places, and leave them as they are
   stays_passed : (shape : Words) (c k : ℕ) (added : List RawRead) → c ≤ length (published_words v.reads) →
       Passed shape c k added → Each (OpenUnseen v.seen) added → ((r : RawRead) → Has added r → Has u.reads r) →
       Each (Stays v.places done) added
@@ -111,6 +121,7 @@ module _ (v u : View) (now : Consistent v) (order : AreInOrder v.reads) (later :
         stays_passed shape c (k + 1) added l p.1 unseen.1 (λ s h. into s (inr h)),
       )
 
+  -- the reads of a look down from the count are answered by the done places, and leave them as they are
   stays_down : (shape : Words) (c k : ℕ) (added : List RawRead) → c ≡ length (published_words v.reads) →
       Passed shape c k added → Each (OpenUnseen v.seen) added → ((r : RawRead) → Has added r → Has u.reads r) →
       Each (Stays v.places done) (added ++ Count c ∷ [])
@@ -121,7 +132,7 @@ module _ (v u : View) (now : Consistent v) (order : AreInOrder v.reads) (later :
 
 -- ---- a look
 
--- what was read more changes nothing
+-- from v to w the pass noted more reads, each of which the places that it had published answer and stay as they are
 pub record Sees (v w : View) : Type 0 where
   pub more : List RawRead
   pub reads : w.reads ≡ more ++ v.reads

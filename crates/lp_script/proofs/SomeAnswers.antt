@@ -30,7 +30,7 @@ change_solves_nothing : (state : State) (m : Model) (held : Option Model) (e : E
 change_solves_nothing state m None e h = no_solve _ _ m h
 change_solves_nothing state m (Some n) e h = edit_solves_nothing state m (edited n e) h
 
--- memory may run out in a solve
+-- where what is due for an ask is a solve, the ask is one for which memory may run out
 solve_wants : (state : State) (asked : ExactAsk) (m : Model) → due state asked ≡ Solves m → takes_memory asked ≡ true
 solve_wants state (ask.Plain (command.Write form)) m e = refl
 solve_wants state (ask.Plain command.Solve) m e = refl
@@ -53,6 +53,7 @@ module _ (places : ℕ) where
     pub next : State
     pub step : AloneStep places state asked [] replied next
 
+  -- whatever is due for an ask, some reply without a read and some state after it make a step of the session
   step_by : (state : State) (asked : ExactAsk) (d : Due) → due state asked ≡ d → SomeStep state asked
   step_by state asked (Replies replied next) e = record {
     replied = replied;
@@ -82,6 +83,7 @@ module _ (places : ℕ) where
     };
   }
 
+  -- each ask has some step of a session that reads nothing
   some_step : (state : State) (asked : ExactAsk) → SomeStep state asked
   some_step state asked = step_by state asked (due state asked) refl
 
@@ -92,6 +94,7 @@ module _ (places : ℕ) where
     pub unread : log_of exchanges ≡ []
     pub runs : (session : ℕ) → (last : State) × AloneRun places (states session) (of_session session exchanges) last
 
+  -- any asks have exchanges without a read in which each session runs alone from its state
   pub some_exchanges : (states : ℕ → State) (asks : List (Asked ExactAsk)) → SomeExchanges states asks
   some_exchanges states [] =
       record { exchanges = []; asked = refl; unread = refl; runs = λ session. (states session, refl) }

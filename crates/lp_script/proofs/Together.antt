@@ -1,7 +1,7 @@
 -- The sessions by their numbers, when one of them takes a step.
 --
 -- `states-replicate`: the states of new sessions at rest are opening states.
--- `rests`: each of sessions at rest awaits nothing.
+-- `rests`: where no session awaits anything, the session that is read at k awaits nothing.
 -- `rests_more`: 65 sessions at rest stay so when one of them is replaced by one that awaits nothing.
 -- `answers_ok`: a step whose reply was written answers its request; if the write failed there is nothing to show.
 -- `answers_part`: a step of which a prefix of the reply was written answers its request in part.
@@ -42,6 +42,7 @@ rests_more all k new e rest =
 
 -- all as they open
 module _ (all : List Standing) (is : all ≡ replicate 65 (at_rest opening)) where
+  -- 65 sessions as they open are at rest
   pub rests-opening : (length all ≡ 65) × AreAtRest all
   rests-opening = (
     ap length is ∙ length-replicate 65 (at_rest opening),
@@ -49,6 +50,7 @@ module _ (all : List Standing) (is : all ≡ replicate 65 (at_rest opening)) whe
         (All-replicate (λ (s : Standing). s.awaits ≡ Nothing) 65 (at_rest opening) refl),
   )
 
+  -- 65 sessions as they open, with no place done, are what a script opens with
   pub opens : (sharing : Sharing) (places : ℕ) → sharing ≡ record { places = places; done = [] } →
       ◌≡◌ {A = Together} (record { states = states_of all; sharing = sharing }) (opening_with places)
   opens sharing places same =
@@ -58,18 +60,23 @@ module _ (all : List Standing) (is : all ≡ replicate 65 (at_rest opening)) whe
 
 -- the session that is asked has this standing from now on
 module _ (all : List Standing) (asked : Asked ExactAsk) (within : asked.session < length all) (new : Standing) where
+  -- the states of the sessions, where the asked session has its new standing
   abbrev changed : List State
   changed = states_of (set all asked.session new)
 
+  -- the states with the asked session's changed are the old ones with its new state set
   changed_is : changed ≡ set (states_of all) asked.session new.state
   changed_is = map-set (λ session. session.state) all asked.session new
 
+  -- the state of the asked session is the new one
   new_state : state_at changed asked.session ≡ new.state
   new_state =
       ap (λ (states : List State). state_at states asked.session) changed_is
       ∙ get_or-set_same (states_of all) asked.session new.state opening
       (subst (λ (n : ℕ). asked.session < n) (sym (length-map all (λ session. session.state))) within)
 
+  -- where the asked session takes a step that shares the places, all sessions together take it, and only its state is
+  -- another
   pub steps : (old sharing : Sharing) (reply : ExactReply) (standing : Standing) →
       standing ≡ get_or all asked.session standing → SharesStep standing.state asked.ask old reply new.state sharing →
       Steps (record { states = states_of all; sharing = old }) (record { states = changed; sharing = sharing }) asked

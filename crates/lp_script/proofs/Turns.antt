@@ -77,7 +77,8 @@ step_in : {before new : State} {asked : ExactAsk} {old sharing : Sharing} {reply
 step_in {before} {new} {asked} {old} {sharing} {reply} places same s =
     subst (λ (p : ℕ). AloneStep p before asked s.reads reply new) same s.step
 
--- the places answer what it reads
+-- where a session takes a step that shares so many places, the places answer what it reads, and are as the step leaves
+-- them
 played_in : {before new : State} {old sharing : Sharing} {reply : ExactReply} (places : ℕ) (asked : Asked ExactAsk) →
     old.places ≡ places → (s : SharesStep before asked.ask old reply new sharing) →
     Plays places (as_places old.done) (log_of (exchange_of asked s.reads reply ∷ [])) (as_places sharing.done)
@@ -90,7 +91,7 @@ played_in {before} {new} {old} {sharing} {reply} places asked same s =
 module _ {places : ℕ} {left_before left_now taken_before taken_now : Option (List ℕ)} (left_after : Option (List ℕ))
     {reading : LinesState} {sessions : Together}
     (t : Turn places left_before left_now taken_before taken_now reading sessions) where
-  -- one more ask was answered
+  -- where the next request was read, and was answered with its reply written, the turn goes on with it
   pub turn_on : (taken_after : Option (List ℕ)) (new_reading : LinesState) (asked : Asked ExactAsk) →
       TakesAsk Numbered left_now left_after reading new_reading asked → (new : Together) →
       Answers taken_now taken_after sessions new asked →
@@ -116,12 +117,12 @@ module _ {places : ℕ} {left_before left_now taken_before taken_now : Option (L
 
   -- ---- where the run stops
 
-  -- lines came that complete no ask
+  -- where more lines complete no ask, the exchanges of the lines before are those of all of these lines
   none_more : (more : List (Line (List ℕ))) → asks_from Numbered Between more ≡ [] →
       IsSoFar places t.exchanges (t.lines ++ more) (state_at sessions.states) (as_places sessions.sharing.done)
   none_more more none = so_far_none places t.exchanges t.lines _ _ t.so_far t.between more none
 
-  -- the input has ended
+  -- where the input of a turn ends, the run has moved what its exchanges say, and ends as the end of the input says
   pub ended : (ending : Ending) → TakesEnd Numbered left_now left_after reading ending →
       (moves : Moves 1 places (streams left_before left_after taken_before taken_now)) × EndsInput moves ending
   ended ending k =
@@ -131,7 +132,8 @@ module _ {places : ℕ} {left_before left_now taken_before taken_now : Option (L
       (ap ending_by (pending_more t.lines k.none.passed t.between) ∙ k.ends) in
       (m.0, m.1 refl)
 
-  -- the input is longer than may be read
+  -- where a turn finds the input longer than may be read, the run has moved what its exchanges say, and ends with
+  -- `Over`
   too_long : TakesNone Numbered left_now left_after reading (Ok Over) →
       (moves : Moves 1 places (streams left_before left_after taken_before taken_now)) × EndsSo moves (Err halts.Over)
   too_long k =
@@ -141,7 +143,7 @@ module _ {places : ℕ} {left_before left_now taken_before taken_now : Option (L
       (whole_front t.exchanges) over.front over.past in
       (m.0, m.1 refl)
 
-  -- no further ask came
+  -- where reading the next ask halts, the run has moved what its exchanges say, and ends with that halt
   pub stopped : (new : LinesState) (halt : Halt) → TakesNext Numbered left_now left_after reading new (Err halt) →
       (moves : Moves 1 places (streams left_before left_after taken_before taken_now)) × EndsSo moves (Err halt)
   stopped new halts.Read k =
@@ -161,7 +163,7 @@ module _ {places : ℕ} {left_before left_now taken_before taken_now : Option (L
   stopped new halts.Over k = too_long k
   stopped new halts.Write k = absurd k
 
-  -- an ask came, and was answered in part
+  -- where the next ask was read, and was answered in part, the run has moved what its exchanges and that part say
   pub in_answer : (taken_after : Option (List ℕ)) (new : LinesState) (asked : Asked ExactAsk) →
       TakesAsk Numbered left_now left_after reading new asked → AnswersInPart taken_now taken_after sessions asked →
       Moves 1 places (streams left_before left_after taken_before taken_after)

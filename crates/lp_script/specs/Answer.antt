@@ -18,16 +18,16 @@ pub record Together : Type 0 where
 abbrev pub states_of : List Standing → List State
 states_of all = map (λ session. session.state) all
 
--- none of them is in the middle of a request
+-- no session is in the middle of a request
 abbrev pub AreAtRest : List Standing → Type 0
 AreAtRest all = All (λ session. session.awaits ≡ Nothing) all
 
--- as they open, with so many places, of which none is claimed
+-- 65 sessions that were asked nothing yet, and so many places, of which none is claimed
 abbrev pub opening_with : ℕ → Together
 opening_with places =
     record { states = replicate 65 opening; sharing = record { places = places; done = [] } }
 
--- the state of a session in the list of all
+-- the state of the session of this number; that of a new session where there is none
 abbrev pub state_at : List State → ℕ → State
 state_at sessions session = slice_index_or sessions session opening
 
@@ -37,13 +37,13 @@ pub record Steps (old new : Together) (asked : Asked ExactAsk) (reply : ExactRep
       (state_at new.states asked.session) new.sharing
   pub others : (session : ℕ) → session ≢ asked.session → state_at new.states session ≡ state_at old.states session
 
--- the session's reply was written
+-- the session of the request took its step, and the lines of its reply were written
 pub record Answers (before after : Option (List ℕ)) (old new : Together) (asked : Asked ExactAsk) : Type 0 where
   pub reply : ExactReply
   pub steps : Steps old new asked reply
   pub written : Appends before after (reply_lines Numbered asked.session reply)
 
--- a prefix of a reply was written, for which the session took its step
+-- the session of the request has a step by which it gives a reply, and of this reply's lines a beginning was written
 pub record AnswersInPart (before after : Option (List ℕ)) (old : Together) (asked : Asked ExactAsk) : Type 0 where
   pub reply : ExactReply
   pub state : State

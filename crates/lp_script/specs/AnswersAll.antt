@@ -5,7 +5,8 @@ use Rattle.spec_server.specs.Machine.{ExactAsk, ExactReply}
 use Rattle.spec_server.specs.Exchanges.{Exchange, asked_in}
 use Rattle.spec_serve.specs.Workers.{ManyFits}
 
--- the replies are those of exchanges of the requests, in their order, that so many workers may have had
+-- there are exchanges of these requests with these replies, in this order,
+-- that so many workers may have had with so many places
 pub record AnswersAll (workers places : ℕ) (asks : List (Asked ExactAsk)) (replies : List ExactReply) : Type 0 where
   pub exchanges : List Exchange
   pub asked : map asked_in exchanges ≡ asks

@@ -6,14 +6,14 @@ use Rattle.spec_server.specs.Exchanges.{Exchange}
 use Rattle.spec_serve.specs.Workers.{asks_of_worker, exchanges_of_worker}
 use Rattle.lp_script.specs.declared.part.Part.{Part}
 
--- each part holds its own requests of the list, the last one first
+-- each of n parts holds those of the requests that are its worker's, the last one first
 abbrev pub AreDealt : ℕ → List (Asked ExactAsk) → List Part → Type 0
 AreDealt n asks parts =
     (i : ℕ) (d : Part) → i < n →
     (slice_index_or parts i d).asks.items ≡ reverse (asks_of_worker n i asks)
 
--- each of so many parts holds the replies of its own of the exchanges: these stand with the last one first, its
--- replies with the first one first
+-- each of n parts holds the replies of those of the exchanges that are its worker's; the exchanges and the replies that
+-- are held stand in opposite orders
 abbrev pub AreHeld : ℕ → List Exchange → List Part → Type 0
 AreHeld n exchanges parts =
     (i : ℕ) (d : Part) → i < n →

@@ -51,7 +51,7 @@ pub record HaveHad (asks : List (Asked ExactAsk)) (replies : List ExactReply) (v
   pub reads : reads_of view ≡ reads_in_all exchanges
   pub orderly : IsOrderly view
 
--- the worker has had these requests, with these replies
+-- the worker had exchanges of these requests with these replies, and its sessions are where these left them
 abbrev pub HasHad : List (Asked ExactAsk) → List ExactReply → Worker Part → Type 0
 HasHad asks replies w = HaveHad asks replies w.pass.view w.job.sessions.items
 

@@ -5,7 +5,7 @@ use Rattle.spec_server.specs.declared.addressing.Addressing.TheVariants.{Numbere
 use Rattle.spec_server.specs.Machine.{ExactReply}
 use Rattle.spec_server.specs.Output.{reply_lines}
 
--- a session and the reply to its request
+-- what is written of a reply: its lines, with the number of its session
 abbrev pub lines_of_reply : ℕ × ExactReply → List ℕ
 lines_of_reply pair = reply_lines Numbered pair.0 pair.1
 

@@ -20,8 +20,8 @@ abbrev pub AreAsked : Option (List ℕ) → List ℕ → List (Asked ExactAsk) �
 AreAsked after read asks =
     (asks ≡ ended_asks_of Numbered read) ⊎ ((asks ≡ (script_of Numbered read).asks) × IsAtEnd after)
 
--- The bytes that were read; the exchanges of their requests, in which each session runs alone, by `workers` workers
--- that share `places` places; and the bytes that were written, a prefix of the output of the exchanges.
+-- A run read these bytes, had these exchanges of their requests, by `workers` workers that share `places` places, in
+-- which each session runs alone, and wrote a beginning of their output.
 pub record Moves (workers places : ℕ) (s : Streams) : Type 0 where
   pub read : List ℕ
   pub exchanges : List Exchange
@@ -36,23 +36,25 @@ pub record Moves (workers places : ℕ) (s : Streams) : Type 0 where
 abbrev pub IsWhole : {workers places : ℕ} {s : Streams} → Moves workers places s → Type 0
 IsWhole moves = moves.written ≡ script_out moves.exchanges
 
--- the bytes are a whole script with this end, the exchanges are those of its requests, and the whole output was written
+-- the bytes that the run read are a whole script with this end, its exchanges are of all its requests, and it wrote
+-- their whole output
 pub record EndsWith {workers places : ℕ} {s : Streams} (moves : Moves workers places s) (ending : Ending) : Type 0 where
   pub script : script_of Numbered moves.read ≡ record { asks = map asked_in moves.exchanges; ending = ending }
   pub whole : IsWhole moves
 
--- nothing is left to be read
+-- the run read a whole script with this end, wrote its whole output, and left nothing to be read
 pub record EndsInput {workers places : ℕ} {s : Streams}
     (moves : Moves workers places s) (ending : Ending) : Type 0 where
   pub ends : EndsWith moves ending
   pub at_end : IsAtEnd s.left_after
 
--- the exchanges are those of the lines that end among the bytes, and the whole output was written
+-- the run's exchanges are of the requests in lines that end among the bytes read, and it wrote their whole output
 pub record BreaksOff {workers places : ℕ} {s : Streams} (moves : Moves workers places s) : Type 0 where
   pub asks : map asked_in moves.exchanges ≡ ended_asks_of Numbered moves.read
   pub whole : IsWhole moves
 
--- what a run that moved so ended with, by its result
+-- What a run has done that ended with this result: all of the script, if it was read to its end, or was too long; all
+-- of the lines that were read, if reading failed. If writing failed or memory ran out, nothing more is asked.
 abbrev pub EndsSo : {workers places : ℕ} {s : Streams} → Moves workers places s → Result (Unit {0}) Halt → Type 0
 EndsSo moves (Ok u) = EndsInput moves Ended
 EndsSo moves (Err halts.Cut) = EndsInput moves Cut

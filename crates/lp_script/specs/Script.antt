@@ -16,7 +16,8 @@ pub record ReadsToEnd (before after : Option (List ℕ)) (lines : List (Line (Li
   pub all : ReadsAll before after lines
   pub ends : ending_by (pending_after Numbered Between lines) ≡ ending
 
--- the lines that were read, by what halted the reading
+-- these are the lines that were read: the whole script, if it ended or was cut off; those up to the limit on bytes; or
+-- those up to a fault of the input. There is no other halt
 abbrev pub ReadsTo : Option (List ℕ) → Option (List ℕ) → List (Line (List ℕ)) → Result (Unit {0}) Halt → Type 0
 ReadsTo before after lines (Ok u) = ReadsToEnd before after lines Ended
 ReadsTo before after lines (Err halts.Cut) = ReadsToEnd before after lines Cut
@@ -25,7 +26,7 @@ ReadsTo before after lines (Err halts.Read) = ReadsToFault before after lines
 ReadsTo before after lines (Err halts.Write) = ⊥
 ReadsTo before after lines (Err halts.NoMemory) = ⊥
 
--- the requests of the lines that were read, and why the reading ended
+-- lines were read, of which these are the requests, each of a session up to 64, and the reading ended so
 pub record IsRead (before after : Option (List ℕ)) (asks : List (Asked ExactAsk)) (end : Result (Unit {0}) Halt) :
     Type 0 where
   pub lines : List (Line (List ℕ))

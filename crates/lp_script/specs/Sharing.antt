@@ -20,7 +20,7 @@ pub record Shares (old : Sharing) (reads : List ExactRead) (new : Sharing) : Typ
   pub places : new.places ≡ old.places
   pub played : (session : ℕ) → Plays old.places (as_places old.done) (logged session reads) (as_places new.done)
 
--- one step of a session
+-- a session answers this request with this reply in one step of the machine, and the places answer what it reads for it
 pub record SharesStep (before : State) (asked : ExactAsk) (old : Sharing) (replied : ExactReply) (after : State)
     (new : Sharing) : Type 0 where
   pub reads : List ExactRead

@@ -10,7 +10,7 @@ use lp_base::{Bytes, Sink, send};
 use lp_line::{Addressing, Halt, Reply, print};
 use std::alloc::Global;
 
-/// Writes the reply of a session.
+/// Sends the lines of a session's reply, with the session's number.
 pub(crate) fn write_reply<K: Sink>(
     alloc: Global,
     session: u32,

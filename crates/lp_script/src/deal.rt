@@ -21,8 +21,8 @@ pub(crate) fn open_parts(alloc: Global, workers: u32) -> Result<Vec<Part>, Alloc
     Ok(parts)
 }
 
-/// Deals the requests to the parts, of which there is one at least. It gives the sessions of the requests, the last one
-/// first.
+/// Deals the requests to the parts, of which there is one at least: each to the part whose number is the remainder of
+/// its session's number by the number of parts. It gives the sessions of the requests, the last one first.
 pub(crate) fn deal(
     alloc: Global,
     mut asks: Vec<Asked>,
@@ -46,7 +46,8 @@ pub(crate) fn deal(
     Ok(sessions)
 }
 
-/// The replies of the parts in the order of the requests, whose sessions these are, the last one first.
+/// Takes the replies out of the parts, and gives them in the order of the requests. `sessions` has the session of each
+/// request, the last one first.
 pub(crate) fn collect(
     alloc: Global,
     sessions: &[u32],

@@ -3,7 +3,7 @@ use std::sync::Wait;
 
 /// Is told of each solve before it is made. It may wait, and answers nothing.
 pub trait Gate {
-    /// Before solve `nth` of a session, counted from 1.
+    /// Is called before solve `nth` of a session, counted from 1. It may wait.
     fn before<R: Wait>(&self, rt: &R, session: u32, nth: u64);
 }
 

@@ -11,7 +11,8 @@ use lp_base::{Lines, Sink, Source};
 use lp_line::{Addressing, Halt, take};
 use std::alloc::Global;
 
-/// Answers each request of a script before it reads the next one, from its start and with all sessions as they open.
+/// Answers each request of a script, and writes its reply, before it reads the next one. It begins at the start of the
+/// lines, with all sessions as they open, and ends with the script or at what halts it.
 pub(crate) fn answer_asks<S: Source, K: Sink>(
     alloc: Global,
     lines: &mut Lines,

@@ -26,7 +26,7 @@ pub struct Part {
     pub(crate) replies: Vec<Reply>,
 }
 
-// Tells the gate of the request, if it is a solve, and counts it.
+// If the request is `SOLVE`, counts it, up to 2^64 - 1, and then calls the gate.
 fn tell<R: Wait, G: Gate>(rt: &R, gate: &G, asked: &Asked, solves: &mut u64)
     ensures { (solves.new ≡ solves.old) ⊎ (solves.new ≡ solves.old + 1) ⊎ (solves.new ≡ 2 ^ 64 - 1) }
 {
@@ -50,7 +50,7 @@ impl Part {
         })
     }
 
-    /// Takes one more request, which stands before those that it holds, and makes room for its reply.
+    /// Takes one more request, which is answered before those that it holds, and makes room for its reply.
     pub(crate) fn take(&mut self, asked: Asked) -> Result<(), AllocError>
         ensures asks { OnOk result (self.new.asks.items ≡ self.old.asks.items ++ asked ∷ []) }
         ensures room { OnOk result (vec_len self.new.replies + vec_len self.new.asks ≤ vec_capacity self.new.replies) }
@@ -63,7 +63,7 @@ impl Part {
         Ok(())
     }
 
-    // The reply to one request.
+    // The reply of the request's session to it, over the board by the pass. The gate is called before a `SOLVE`.
     fn answer<R: Wait, G: Gate>(
         &mut self,
         rt: &R,

@@ -17,7 +17,7 @@ use std::marker::Model;
 /// How many sessions there are, numbered from 0. Session 0 stands for lines that name none.
 pub(crate) const SESSIONS: usize = 65;
 
-/// All sessions as they open.
+/// All sessions of a script in the state in which they open.
 pub(crate) fn opening_sessions(alloc: Global) -> Result<Vec<Session>, AllocError>
     ensures { IfOk result (λ all. all.items ≡ replicate 65 (at_rest opening)) }
 {

@@ -17,7 +17,7 @@ use std::alloc::{AllocError, Global};
 use std::sync::Wait;
 use std::thread::Threads;
 
-// The sessions of requests, in their order.
+// The numbers of the sessions that these requests are for, in the order of the requests.
 fn sessions_of(alloc: Global, asks: &[Asked]) -> Result<Vec<u32>, AllocError>
     ensures { IfOk result (λ sessions. sessions.items ≡ map (λ asked. asked.session) asks.now) }
 {
@@ -28,7 +28,7 @@ fn sessions_of(alloc: Global, asks: &[Asked]) -> Result<Vec<u32>, AllocError>
     Ok(sessions)
 }
 
-// Writes the replies of these sessions, one after the other.
+// Writes these replies, one after the other. `sessions` has the number of each one's session.
 fn write<K: Sink>(
     alloc: Global,
     sessions: &[u32],
