@@ -39,26 +39,32 @@ use Rattle.lp_serve.proofs.RunsOver.{all_run}
 module _ {N : Type 0} (state : N → ListenerState) (board : Board) (each : ℕ) (olds news : List (Worker (Desk N)))
     (same : length news ≡ length olds) (fresh : All (λ (w : Worker (Desk N)). IsFresh board w.pass) olds)
     (serves : ServesEach state board each olds news) where
+  -- the links that the workers have served, one list for each worker
   abbrev links : List (List Served)
   links = (all_served state board each olds news same fresh serves).0
 
+  -- the workers have served these links
   abbrev so : AreServed state board each olds news (all_served state board each olds news same fresh serves).0
   so = (all_served state board each olds news same fresh serves).1
 
   module _ (some : 0 < length olds) (one_log : IsOneLog (notes_of_all (passes_of news)))
       (backed : AreBacked (reads_of_all (passes_of news))) (places : ℕ) (made : board.places ≡ places)
       (before after : Option (List ℕ)) where
+    -- there are as many lists of links as workers
     many : length links ≡ length olds
     many = as_many state board each olds news links so
 
+    -- there are as many listeners as workers
     listeners : length (states_of state board each olds) ≡ length olds
     listeners = length-map (nets_of (jobs_of olds)) state ∙ length-map (jobs_of olds) (λ (desk : Desk N). desk.net)
         ∙ length-map olds (λ (w : Worker (Desk N)). w.job)
 
+    -- the server, with these listeners and this output, has ended with this result
     abbrev Whole : Result (Unit {0}) ServeFault → Type 0
     Whole result =
         Serves places each (states_of state board each olds) (states_of state board each news) before after result
 
+    -- where what was written is as the result says, the server has ended with it
     serves_so : (result : Result (Unit {0}) ServeFault) →
         Writes each (states_of state board each olds) (states_of state board each news) links before after result →
         Whole result
@@ -74,6 +80,7 @@ module _ {N : Type 0} (state : N → ListenerState) (board : Board) (each : ℕ)
           writes = writes;
         })
 
+    -- where all ends were written and no listener failed, the server has ended well
     when_ok : Appends before after (serve_out (map ends_in (jobs_of news))) → failed_in state board each news ≡ false →
         Whole (Ok tt)
     when_ok appends none =
@@ -83,6 +90,7 @@ module _ {N : Type 0} (state : N → ListenerState) (board : Board) (each : ℕ)
               (all_whole state board each olds news links so none),
         )
 
+    -- where all ends were written and a listener failed, the server has ended with `Accept`
     when_accept : Appends before after (serve_out (map ends_in (jobs_of news))) → failed_in state board each news ≡ true →
         Whole (Err fault.Accept)
     when_accept appends failed =
@@ -92,6 +100,8 @@ module _ {N : Type 0} (state : N → ListenerState) (board : Board) (each : ℕ)
           (one.0, omega (arith, one.1, listeners), one.2),
         )
 
+    -- where a beginning of the ends was written before the sink failed or memory ran out, the server has ended with
+    -- that fault
     when_err : (why : ServeFault) → (why ≡ fault.Write) ⊎ (why ≡ fault.NoMemory) →
         Takes before after (serve_out (map ends_in (jobs_of news))) →
         Whole (Err why)
@@ -104,6 +114,7 @@ module _ {N : Type 0} (state : N → ListenerState) (board : Board) (each : ℕ)
         (serves_so (Err fault.NoMemory)
         (subst (λ ends. Takes before after (serve_out ends)) (ends_are state board each olds news links so) takes))
 
+    -- the server has ended with what `ended_with` makes of the writing and of whether a listener failed
     pub when_ended : (said : Result (Unit {0}) ServeFault) (failed : Bool) →
         OnOk said (Appends before after (serve_out (map ends_in (jobs_of news)))) →
         Takes before after (serve_out (map ends_in (jobs_of news))) →
@@ -117,6 +128,8 @@ module _ {N : Type 0} (state : N → ListenerState) (board : Board) (each : ℕ)
 module _ {N : Type 0} (is_ready : ℕ → Desk N → Type 0) (state : N → ListenerState) (each places : ℕ)
     (olds news : List (Desk N)) (took : TookTurns is_ready (Took state) each places olds news) (some : 0 < length olds)
   where
+    -- once all desks took their turns, the server has ended with what `ended_with` makes of the writing and of whether
+    -- a listener failed
     pub all_ended : (before after : Option (List ℕ)) (said : Result (Unit {0}) ServeFault) (failed : Bool) →
         OnOk said (Appends before after (serve_out (map ends_in news))) →
         Takes before after (serve_out (map ends_in news)) →

@@ -31,7 +31,7 @@ module _ {before now taken_before taken_now : Option (List ℕ)} {reading : Line
     (t : Turn before now taken_before taken_now reading v w state)
     (left_asked taken_asked : Option (List ℕ)) (new : LinesState) (m n : ℕ)
     (reads_beside : sink_of taken_asked m ≡ sink_of taken_now n) where
-  -- no further ask came
+  -- where no further request came, the link was served and ends so
   pub stops : (result : Result ExactAsk LinkEnd) (ended : LinkEnd) → result ≡ Err ended →
       TakesAsk now left_asked reading new result →
       ServesBy (streams before left_asked taken_before taken_asked) v w ended
@@ -47,18 +47,22 @@ module _ {before now taken_before taken_now : Option (List ℕ)} {reading : Line
       (adds : AddsStep state asked w reply next u) (calls : StepCalls w u)
       (consistent : Consistent w → Consistent u) (left_sent taken_sent : Option (List ℕ)) (p q : ℕ)
       (writes_beside : source_of left_sent p ≡ source_of left_asked q) (sent : Result (Unit {0}) LinkEnd) where
+    -- what was read of the link gave this request
     taken_so : TakesAsk now left_asked reading new (Ok asked)
     taken_so = subst (λ (r : Result ExactAsk LinkEnd). TakesAsk now left_asked reading new r) came k
 
+    -- what was read of the link gave this request, and the sending of the reply left its bytes
     takes : lines.TakesAsk Alone now left_sent reading new (record { session = 0; ask = asked })
     takes =
         subst
         (λ (left : Option (List ℕ)). lines.TakesAsk Alone now left reading new (record { session = 0; ask = asked }))
         (sym (same_left left_sent left_asked p q writes_beside)) taken_so.0
 
+    -- what holds of the bytes taken after the request was read holds of those taken before it
     since : (P : Option (List ℕ) → Type 0) → P taken_asked → P taken_now
     since P holds = subst P (same_taken taken_asked taken_now m n reads_beside) holds
 
+    -- where the reply could not be sent whole, the link was served up to there and ends so
     pub breaks : (stop : LinkEnd) → sent ≡ Err stop → Takes taken_asked taken_sent (reply_lines Alone 0 reply) →
         IfErr sent (λ why. (why ≡ end.Write) ⊎ (why ≡ end.NoMemory)) →
         ServesBy (streams before left_sent taken_before taken_sent) v u stop
@@ -70,14 +74,17 @@ module _ {before now taken_before taken_now : Option (List ℕ)} {reading : Line
 
     module _ (done : Unit {0}) (is : sent ≡ Ok done)
         (all : OnOk sent (Appends taken_asked taken_sent (reply_lines Alone 0 reply))) where
+      -- the lines of the reply were appended whole to what was sent before the request
       whole : Appends taken_now taken_sent (reply_lines Alone 0 reply)
       whole =
           since (λ taken. Appends taken taken_sent (reply_lines Alone 0 reply))
           (subst (λ (r : Result (Unit {0}) LinkEnd).
           OnOk r (Appends taken_asked taken_sent (reply_lines Alone 0 reply))) is all)
 
+      -- where the request was `QUIT`, the link was served and ends with `Done`
       pub ends : is_quit asked ≡ true → ServesBy (streams before left_sent taken_before taken_sent) v u end.Done
       ends quits = quit left_sent t asked new takes adds calls consistent taken_sent whole quits
 
+      -- where the request was not `QUIT`, the service goes on, with one request more answered
       pub goes_on : is_quit asked ≡ false → Turn before left_sent taken_before taken_sent new v u next
       goes_on other = turn_on left_sent t asked new takes adds calls consistent taken_sent whole other

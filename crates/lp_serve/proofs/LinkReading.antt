@@ -27,7 +27,7 @@ pub holds_too : (after : Option (List ℕ)) (read : List ℕ) (P Q : List ℕ �
 holds_too after read P Q leads holds =
     ⊎_elim (λ p. inl (p.0, leads read p.1)) (λ all. inr (λ more. leads (read ++ more) (all more))) holds
 
--- these asks come first
+-- these requests come first in all that the link sends, of which the bytes `read` were read
 abbrev pub ComeFirst : Option (List ℕ) → List ℕ → List (Asked ExactAsk) → Type 0
 ComeFirst after read asks = HoldsOfAll after read (λ bytes. AsksBegin asks bytes)
 
@@ -55,7 +55,7 @@ begun false after raw ahead lines live t = t
 
 module _ {after : Option (List ℕ)} {bytes : List ℕ} {new : LinesState} {lines : List (Line (List ℕ))}
     (t : TakesLines after at_start bytes new lines) where
-  -- their asks come first, where the input had not ended
+  -- the requests of the lines taken come first in the bytes that were read and any more, where the input had not ended
   begin_live : new.ended ≡ false → (more : List ℕ) → AsksBegin (asks_of_lines lines) (bytes ++ more)
   begin_live live more =
       let b = begun new.ended after t.raw new.ahead lines live t.told in
@@ -65,13 +65,15 @@ module _ {after : Option (List ℕ)} {bytes : List ℕ} {new : LinesState} {line
       (sym (ap (λ (bs : List ℕ). bs ++ more) t.cut ∙ append_assoc t.raw new.ahead more))
       (begins_part t.raw lines within b.all b.ended (new.ahead ++ more))
 
-  -- also where more was read
+  -- the requests of the lines taken come first also where other bytes were read behind, and in any more, where the
+  -- input had not ended
   begin_further : new.ended ≡ false → (others more : List ℕ) →
       AsksBegin (asks_of_lines lines) ((bytes ++ others) ++ more)
   begin_further live others more =
       subst (λ (bs : List ℕ). AsksBegin (asks_of_lines lines) bs) (sym (append_assoc bytes others more))
       (begin_live live (others ++ more))
 
+  -- the requests of the lines taken come first in all that the link sends
   first_taken : ComeFirst after bytes (asks_of_lines lines)
   first_taken = by new.ended refl
     where
@@ -81,7 +83,7 @@ module _ {after : Option (List ℕ)} {bytes : List ℕ} {new : LinesState} {line
 
 -- ---- lines that were read from the start
 
--- the bytes that were read, and the asks of the lines
+-- bytes were read of the link, and in all that it sends these requests come first
 pub record ReadsFirst (before after : Option (List ℕ)) (asks : List (Asked ExactAsk)) : Type 0 where
   pub read : List ℕ
   pub moved : Consumes before after read
@@ -93,6 +95,7 @@ reads_first r = record { read = r.bytes; moved = r.moved; first = first_taken (f
 
 -- and then the reading stopped
 module _ {before after : Option (List ℕ)} {lines : List (Line (List ℕ))} where
+  -- where reading stops and the input had not ended, the requests of the lines come first in all that the link sends
   stopped_first : (stop : LineStop) (u : ReadsUntil before after at_start lines (Err stop)) → u.old.ended ≡ false →
       (r : ReadsFirst before after (asks_of_lines lines)) × (r.read ≡ u.reads.bytes ++ u.gives.bytes)
   stopped_first stop u live = (
@@ -104,12 +107,13 @@ module _ {before after : Option (List ℕ)} {lines : List (Line (List ℕ))} whe
     refl,
   )
 
-  -- where memory runs out
+  -- where memory runs out while lines are read, the requests of the lines come first in all that the link sends
   pub given_up_first : ReadsUntil before after at_start lines (Err NoMemory) →
       ReadsFirst before after (asks_of_lines lines)
   given_up_first u = (stopped_first NoMemory u u.gives.gives.live).0
 
-  -- for a fault: all lines that end were taken
+  -- where a read fails, the requests of the lines come first in all that the link sends, and these are all lines that
+  -- end among the bytes read
   pub broken_first : ReadsUntil before after at_start lines (Err Read) →
       (r : ReadsFirst before after (asks_of_lines lines)) × (ended_lines_of (take input_limit r.read) ≡ lines)
   broken_first u =

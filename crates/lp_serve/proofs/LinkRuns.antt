@@ -37,7 +37,7 @@ steps_reads v old (x ∷ xs) w new s =
     ∙ ap (λ rs. rs ++ reads_in_all xs) s.2.reads
     ∙ append_assoc (reads_of v) x.reads (reads_in_all xs)
 
--- what is known of a view between two calls
+-- what the pass knows is consistent, and its reads are in order
 abbrev IsFair : View → Type 0
 IsFair v = Consistent v × IsOrderly v
 
@@ -61,6 +61,7 @@ steps_run v old (x ∷ xs) w new s = (
 
 -- ---- the links of a worker
 
+-- the exchanges of each of these links
 abbrev pub exchanges_in : List Served → List (List Exchange)
 exchanges_in links = map (λ (x : Served). x.exchanges) links
 

@@ -12,7 +12,7 @@ use Rattle.lp_workers.proofs.Calls.{calls_places}
 use Rattle.lp_session.specs.Boarding.{AddsStep, StepCalls}
 use Rattle.lp_serve.specs.Service.{StepBy, Steps}
 
--- the session's exchange
+-- the exchange of session 0 with this request, the reads that its step adds, and this reply
 abbrev pub exchange_of : {v w : View} {old new : State} (asked : ExactAsk) (reply : ExactReply) →
     AddsStep old asked v reply new w → Exchange
 exchange_of asked reply adds = record { session = 0; ask = asked; reads = adds.reads; reply = reply }

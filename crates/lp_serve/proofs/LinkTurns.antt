@@ -77,6 +77,8 @@ all_first asks ending s is = ([], ap (λ (r : Script). r.asks) is ∙ sym (appen
 
 module _ {before after taken_before taken_after : Option (List ℕ)} (v w : View) (state : State)
     (exchanges : List Exchange) (steps : Steps v opening exchanges w state) where
+  -- what a link has moved where these bytes were read and written of its exchanges, whose requests come first in all
+  -- that it sends
   abbrev moves_by : (read written : List ℕ) → Consumes before after read → Appends taken_before taken_after written →
       IsPrefixOf written (link_out exchanges) →
       HoldsOfAll after read (λ bytes. AreFirstOf (map asked_in exchanges) (link_asks_of bytes).asks) →
@@ -92,7 +94,7 @@ module _ {before after taken_before taken_after : Option (List ℕ)} (v w : View
     front = front;
   }
 
-  -- it ends so
+  -- a link that has moved what these exchanges say, and with it suits this end, was served with this end
   served : (ended : LinkEnd) →
       (moves : LinkMoves v.places (streams before after taken_before taken_after) exchanges) →
       EndsLinkSo moves ended → ServesBy (streams before after taken_before taken_after) v w ended
@@ -139,7 +141,7 @@ module _ {before now taken_before taken_now : Option (List ℕ)} (after : Option
     {v w : View} {state : State} (t : Turn before now taken_before taken_now reading v w state) where
   -- ---- no further ask comes
 
-  -- lines came that complete no ask
+  -- where more lines complete no request, the requests answered so far are those of all lines
   none_more : (more : List (Line (List ℕ))) → asks_of_lines more ≡ [] →
       map asked_in t.exchanges ≡ asks_of_lines (t.lines ++ more)
   none_more more none =
@@ -148,11 +150,12 @@ module _ {before now taken_before taken_now : Option (List ℕ)} (after : Option
       ∙ ap (λ zs. asks_of_lines t.lines ++ zs) (sym none)
       ∙ sym (asks_more t.lines more t.between)
 
+  -- where the requests answered so far are those of the lines, no line said `QUIT`
   no_quit : (lines : List (Line (List ℕ))) → map asked_in t.exchanges ≡ asks_of_lines lines →
       quits (asks_of_lines lines) ≡ false
   no_quit lines asks = subst (λ (zs : List (Asked ExactAsk)). quits zs ≡ false) asks t.goes_on
 
-  -- the link has ended
+  -- where the link's input ends, it has moved what the exchanges so far say, and ends as the input does
   ended : (ending : Ending) → TakesEnd Alone now after reading ending →
       (moves : LinkMoves v.places (streams before after taken_before taken_now) t.exchanges) × EndsLink moves ending
   ended ending k =
@@ -171,7 +174,7 @@ module _ {before now taken_before taken_now : Option (List ℕ)} (after : Option
         record { asked = inl (all.at_end, is); whole = refl },
       )
 
-  -- it sends more than may be read
+  -- where the link sends more than may be read, it has moved what the exchanges so far say, and ends with `Over`
   too_long : TakesNone Alone now after reading (Ok Over) →
       (moves : LinkMoves v.places (streams before after taken_before taken_now) t.exchanges)
       × EndsLink moves script.Over
@@ -191,7 +194,7 @@ module _ {before now taken_before taken_now : Option (List ℕ)} (after : Option
         record { asked = inr is; whole = refl },
       )
 
-  -- the asks are the first of all
+  -- where the requests of the lines come first in all that the link sends, those answered so far do
   first_of : (lines : List (Line (List ℕ))) → map asked_in t.exchanges ≡ asks_of_lines lines → (read : List ℕ) →
       ComeFirst after read (asks_of_lines lines) →
       HoldsOfAll after read (λ bytes. AreFirstOf (map asked_in t.exchanges) (link_asks_of bytes).asks)
@@ -202,7 +205,7 @@ module _ {before now taken_before taken_now : Option (List ℕ)} (after : Option
       (first_asks b (no_quit lines asks)))
       first
 
-  -- the link could not be read
+  -- where a read of the link fails, it has moved what the exchanges so far say, and breaks off
   broken_off : TakesNone Alone now after reading (Err Read) →
       (moves : LinkMoves v.places (streams before after taken_before taken_now) t.exchanges) × BreaksLink moves
   broken_off k =
@@ -215,7 +218,7 @@ module _ {before now taken_before taken_now : Option (List ℕ)} (after : Option
         record { asked = asks ∙ ended_asks r.0.read lines r.1 (no_quit lines asks); whole = refl },
       )
 
-  -- memory ran out
+  -- where memory runs out as the next request is read, the link has moved what the exchanges so far say
   given_up : (new : LinesState) → TakesPart now after reading new →
       LinkMoves v.places (streams before after taken_before taken_now) t.exchanges
   given_up new k =
@@ -230,7 +233,7 @@ module _ {before now taken_before taken_now : Option (List ℕ)} (after : Option
       (subst (λ (zs : List (Asked ExactAsk)). ComeFirst after r.read zs) (asks_more t.lines k.passed t.between)
       r.first)))
 
-  -- no further ask came
+  -- where no further request came, the link was served and ends so
   pub stopped : (new : LinesState) (ended_so : LinkEnd) → service.TakesAsk now after reading new (Err ended_so) →
       ServesBy (streams before after taken_before taken_now) v w ended_so
   stopped new end.Done k = let m = ended Ended k in served v w state t.exchanges t.steps end.Done m.0 m.1
@@ -245,33 +248,41 @@ module _ {before now taken_before taken_now : Option (List ℕ)} (after : Option
       (k : TakesAsk Alone now after reading new (record { session = 0; ask = asked })) {reply : ExactReply} {u : View}
       {next : State} (adds : AddsStep state asked w reply next u) (calls : StepCalls w u)
       (consistent : Consistent w → Consistent u) (taken_after : Option (List ℕ)) where
+    -- the exchange of the request
     abbrev x : Exchange
     x = exchange_of asked reply adds
 
+    -- the exchanges so far, and then that of the request
     abbrev had : List Exchange
     had = t.exchanges ++ x ∷ []
 
+    -- these exchanges are steps of the session from its opening
     had_steps : Steps v opening had u next
     had_steps =
         steps_more v w u opening state next t.exchanges x t.steps (step_by asked reply adds calls consistent)
 
+    -- the requests of these exchanges are those so far, and then this one
     had_asked : map asked_in had ≡ map asked_in t.exchanges ++ asked_in x ∷ []
     had_asked = asked_in-append t.exchanges (x ∷ [])
 
+    -- the requests of all lines that were read are those of these exchanges
     of_lines : asks_of_lines (t.lines ++ k.passed) ≡ map asked_in t.exchanges ++ asked_in x ∷ []
     of_lines =
         asks_more t.lines k.passed t.between
         ∙ ap (λ zs. zs ++ asks_of_lines k.passed) (sym t.asks)
         ∙ ap (λ zs. map asked_in t.exchanges ++ zs) k.asks
 
+    -- the requests of these exchanges come first in all that the link sends
     came : ReadsFirst before after (map asked_in t.exchanges ++ asked_in x ∷ [])
     came = subst (λ (zs : List (Asked ExactAsk)). ReadsFirst before after zs) of_lines
         (reads_first (ReadsLines-append t.reads k.reads))
 
+    -- the output of these exchanges is that of the exchanges so far, and then the lines of the reply
     had_out : link_out had ≡ link_out t.exchanges ++ reply_lines Alone 0 reply
     had_out = link_out-append t.exchanges (x ∷ [])
         ∙ ap (λ zs. link_out t.exchanges ++ zs) (append-nil (reply_lines Alone 0 reply))
 
+    -- the requests of these exchanges are the first of those of all that the link sends
     had_first : HoldsOfAll after came.read (λ bytes. AreFirstOf (map asked_in had) (link_asks_of bytes).asks)
     had_first =
         holds_too after came.read (λ bytes. AsksBegin (map asked_in t.exchanges ++ asked_in x ∷ []) bytes)
@@ -280,12 +291,14 @@ module _ {before now taken_before taken_now : Option (List ℕ)} (after : Option
         (first_asks_with (map asked_in t.exchanges) (asked_in x) t.goes_on b))
         came.first
 
+    -- what the link has moved where these bytes were written of the output of its exchanges
     abbrev moves_with : (written : List ℕ) → Appends taken_before taken_after written →
         IsPrefixOf written (link_out had) → LinkMoves v.places (streams before after taken_before taken_after) had
     moves_with written appended front =
         moves_by v u next had had_steps came.read written came.moved appended front had_first
 
-    -- the reply was written in part
+    -- where a beginning of the reply was written before the sink failed or memory ran out, the link was served and ends
+    -- so
     pub cut_off : (stop : LinkEnd) → Takes taken_now taken_after (reply_lines Alone 0 reply) →
         (stop ≡ end.Write) ⊎ (stop ≡ end.NoMemory) →
         ServesBy (streams before after taken_before taken_after) v u stop
@@ -306,12 +319,13 @@ module _ {before now taken_before taken_now : Option (List ℕ)} (after : Option
         why)
 
     module _ (sent : Appends taken_now taken_after (reply_lines Alone 0 reply)) where
+      -- the output of these exchanges was written whole
       had_written : Appends taken_before taken_after (link_out had)
       had_written = subst (Appends taken_before taken_after) (sym had_out)
           (Appends-trans taken_before taken_now taken_after (link_out t.exchanges) (reply_lines Alone 0 reply)
           t.written sent)
 
-      -- it was QUIT
+      -- where the request was `QUIT` and its reply was written whole, the link was served and ends with `Done`
       pub quit : is_quit asked ≡ true → ServesBy (streams before after taken_before taken_after) v u end.Done
       quit is =
           served v u next had had_steps end.Done (moves_with (link_out had) had_written (whole_front had))
@@ -325,7 +339,7 @@ module _ {before now taken_before taken_now : Option (List ℕ)} (after : Option
             whole = refl;
           })
 
-      -- it was another
+      -- where the request was not `QUIT` and its reply was written whole, the service goes on with it as answered
       pub turn_on : is_quit asked ≡ false → Turn before after taken_before taken_after new v u next
       turn_on other = record {
         lines = t.lines ++ k.passed;

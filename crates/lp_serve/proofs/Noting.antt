@@ -1,7 +1,7 @@
 -- What a pass notes, one step after the other.
 --
--- `none_noted`: a pass that notes nothing notes on.
--- `noted_on`: a pass that notes on twice notes on.
+-- `none_noted`: `NotesOn` holds of a pass and itself.
+-- `noted_on`: where `NotesOn` holds of a and b, and of b and c, it holds of a and c.
 -- `noted_all`: all reads that a pass has noted since it had noted none were true when it noted them.
 use Rattle.std.proofs.Common.{◌≡◌, [], refl, sym, subst}
 use Rattle.basis_board.specs.Known.{Known}

@@ -29,27 +29,34 @@ use Rattle.lp_serve.proofs.AllServed.{AreServed, news_many, reads_are, each_alon
 module _ {N : Type 0} (state : N → ListenerState) (board : Board) (each : ℕ) (olds news : List (Worker (Desk N)))
     (served : List (List Served)) (so : AreServed state board each olds news served) (some : 0 < length served)
     (one_log : IsOneLog (notes_of_all (passes_of news))) (backed_passes : AreBacked (reads_of_all (passes_of news))) where
+  -- the number of workers, each with its list of links
   abbrev n : ℕ
   n = length (exchanges_of served)
 
+  -- the exchanges of all links, with a number for each link's session
   abbrev xs : List Exchange
   xs = exchanges_from n 0 (exchanges_of served)
 
+  -- there are as many workers as lists of links
   many : n ≡ length served
   many = length-map served exchanges_in
 
+  -- there are as many passes as lists of links
   passes_many : length (passes_of news) ≡ length served
   passes_many = length-map news (λ (w : Worker (Desk N)). w.pass) ∙ news_many state board each olds news served so
 
+  -- the reads of the exchanges of all links are backed
   backed : AreBacked (reads_in_all xs)
   backed =
       subst AreBacked (reads_are state board each olds news served so ∙ sym (all_reads n 0 (exchanges_of served)))
       backed_passes
 
+  -- among all exchanges those of worker i are those of its links
   own : (i : ℕ) → i < length served →
       exchanges_of_worker n i xs ≡ exchanges_of_links n i 0 (get_or (exchanges_of served) i [])
   own i l = worker_has_own n i (exchanges_of served) refl (omega (arith, l, many))
 
+  -- the log of each worker's exchanges is that of its pass
   its_log : (i : ℕ) (d : Known) → i < length (passes_of news) →
       IsLogOf board.places n i (get_or (passes_of news) i d) (logs_of n xs i)
   its_log i d l =
@@ -66,9 +73,11 @@ module _ {N : Type 0} (state : N → ListenerState) (board : Board) (each : ℕ)
         were_true = noted.were_true;
       }
 
+  -- there are as many passes as workers
   same_many : length (passes_of news) ≡ n
   same_many = passes_many ∙ sym many
 
+  -- the logs of all workers have one order in which the places answer them
   one_order : HaveOneOrder board.places n (logs_of n xs)
   one_order =
       subst (λ m. HaveOneOrder board.places m (logs_of n xs)) same_many
@@ -76,6 +85,7 @@ module _ {N : Type 0} (state : N → ListenerState) (board : Board) (each : ℕ)
       (λ i d l. subst (λ m. IsLogOf board.places m i (get_or (passes_of news) i d) (logs_of n xs i))
       (sym same_many) (its_log i d l)) one_log backed_passes)
 
+  -- so many workers may have had these exchanges over the board's places
   fits : ManyFits board.places n xs
   fits =
       many_fit n board.places xs (λ session. omega (arith, some, many))
@@ -83,5 +93,6 @@ module _ {N : Type 0} (state : N → ListenerState) (board : Board) (each : ℕ)
       (each_alone state board each olds news served so n i i (omega (arith, some, many))
       (omega (arith, l, many)))) backed one_order
 
+  -- the exchanges of all links, each session with a number of its own, are those that so many workers may have had
   pub all_run : RunsOver board.places (exchanges_of served)
   all_run = record { many = fits; one = λ one. one_of_many n board.places xs one fits }

@@ -29,7 +29,7 @@ use Rattle.lp_serve.proofs.Noting.{none_noted, noted_on}
 use Rattle.lp_serve.proofs.LinkRuns.{links_places, links_more}
 
 module _ {N : Type 0} (state : N → ListenerState) (board : Board) (each : ℕ) (begun : Worker (Desk N)) where
-  -- so many links were served, and none was wanting
+  -- a worker in its turn has served `index` links of its listener, which has given each that was asked for
   pub record Turning (index : ℕ) (now : Worker (Desk N)) : Type 0 where
     pub links : List Served
     pub of_board : now.pass.board ≡ id_of board
@@ -46,6 +46,7 @@ module _ {N : Type 0} (state : N → ListenerState) (board : Board) (each : ℕ)
     pub well : now.job.has_failed ≡ false
     pub room : each ≤ vec_capacity now.job.ends
 
+  -- a worker that begins its turn with an open desk and a fresh pass has served no link yet
   pub turn_begins : IsOpen each begun.job → IsFresh board begun.pass → Turning 0 begun
   turn_begins opened fresh = record {
     links = [];
@@ -64,6 +65,7 @@ module _ {N : Type 0} (state : N → ListenerState) (board : Board) (each : ℕ)
     room = opened.room;
   }
 
+  -- a worker that is in its turn and has served all links that it was to has served its links
   pub turn_ends : (now : Worker (Desk N)) → Turning each now → HasServed state board each begun now
   turn_ends now so = record {
     links = so.links;
@@ -87,7 +89,7 @@ module _ {N : Type 0} (state : N → ListenerState) (board : Board) (each : ℕ)
   }
 
   module _ (index : ℕ) (now : Worker (Desk N)) (so : Turning index now) (next : Worker (Desk N)) (within : index < each) where
-    -- the listener has failed
+    -- where the listener fails to give a link, the worker has served the links so far, and its turn is over
     pub turn_fails : next.pass ≡ now.pass → next.job.ends ≡ now.job.ends →
         (state next.job.net).log ≡ (state now.job.net).log → (state now.job.net).accept_faults ≤ (state next.job.net).accept_faults →
         Rose (state now.job.net).accept_faults (state next.job.net).accept_faults → next.job.has_failed ≡ true →
@@ -119,12 +121,15 @@ module _ {N : Type 0} (state : N → ListenerState) (board : Board) (each : ℕ)
     module _ (met : N) (given back : LinkState) (ended : LinkEnd)
         (serves : ServesBy (streams given.source.left back.source.left given.sink.taken back.sink.taken)
         now.pass.view next.pass.view ended) where
+      -- the link that was served last
       abbrev one : Served
       one = record { given = given; back = back; exchanges = serves.exchanges; ended = ended }
 
+      -- the links served so far, with the last one
       abbrev links_now : List Served
       links_now = so.links ++ one ∷ []
 
+      -- where a worker in its turn serves one link more of its listener, it is in its turn with one link more
       pub turn_more : IsNothing given.sink.taken →
           (ended ≡ end.Read → Rose given.source.read_faults back.source.read_faults) →
           (ended ≡ end.Write → Rose given.sink.write_faults back.sink.write_faults) →

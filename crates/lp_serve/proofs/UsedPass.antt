@@ -8,6 +8,7 @@ use Rattle.lp_serve.specs.declared.desk.Desk.{Desk}
 use Rattle.lp_serve.proofs.AllServed.{used_of}
 use Rattle.lp_serve.proofs.Turning.{Turning, turn_ends}
 
+-- the pass of a worker that has served all links of its turn is a used one of the board
 pub turn_used : {N : Type 0} (state : N → ListenerState) (board : Board) (each : ℕ) (begun now : Worker (Desk N)) →
     IsFresh board begun.pass → Turning state board each begun each now → IsUsed board now.pass
 turn_used state board each begun now fresh so =

@@ -23,23 +23,24 @@ nets_of {N} desks = map (λ (desk : Desk N). desk.net) desks
 abbrev pub ends_in : {N : Type 0} → Desk N → List LinkEnd
 ends_in desk = desk.ends.items
 
--- nothing is in it, and it has room for so many ends
+-- the vector is empty, and has room for the ends of so many links
 abbrev pub IsRoom : {Z : Type 0} → ℕ → Vec LinkEnd Z → Type 0
 IsRoom each ends = (ends.items ≡ []) × (each ≤ vec_capacity ends)
 
--- Before its turn it has served no link, with room for so many.
+-- a desk before its turn: it has served no link, has room for the ends of so many, and its listener has not failed
 pub record IsOpen {N : Type 0} (each : ℕ) (desk : Desk N) : Type 0 where
   pub none : desk.ends.items ≡ []
   pub room : each ≤ vec_capacity desk.ends
   pub well : desk.has_failed ≡ false
 
--- the sessions of links, one after the other, each from its opening, by the calls of one pass
+-- one pass served these links, one after the other, each session from its opening: what it knew, v, became w
 abbrev pub LinkSteps : View → List Served → View → Type 0
 LinkSteps v [] w = w ≡ v
 LinkSteps v (x ∷ links) w =
     (u : View) × (last : State) × Steps v opening x.exchanges u last × LinkSteps u links w
 
--- After its turn it has served these links of its listener: so many, unless that has failed.
+-- After its turn a worker has served these links of its desk's listener, with their ends noted: `each` of them, or
+-- fewer where the listener has failed. Its pass keeps its part of the board, and only adds to what it knew.
 pub record ServedLinks {N : Type 0} (state : N → ListenerState) (board : Board) (each : ℕ) (old new : Worker (Desk N))
     (links : List Served) : Type 0 where
   pub of_board : new.pass.board ≡ id_of board
@@ -52,13 +53,13 @@ pub record ServedLinks {N : Type 0} (state : N → ListenerState) (board : Board
   pub all : new.job.has_failed ≡ false → length links ≡ each
   pub failed : new.job.has_failed ≡ true → Rose (state old.job.net).accept_faults (state new.job.net).accept_faults
 
--- a worker before its turn and after it: it has served the connections of its desk
+-- in its turn the worker has served some links of its desk's listener
 pub record HasServed {N : Type 0} (state : N → ListenerState) (board : Board) (each : ℕ) (old new : Worker (Desk N)) :
     Type 0 where
   pub links : List Served
   pub served : ServedLinks state board each old new links
 
--- the turn of a desk by a pass: it has served the connections of its desk
+-- the turn of a desk by a pass: it has served some links of the desk's listener
 abbrev pub Took : {N : Type 0} → (N → ListenerState) → ℕ → Board → Desk N → Known → Desk N → Known → Type 0
 Took state each board old pass new passed =
     HasServed state board each (record { job = old; pass = pass }) (record { job = new; pass = passed })

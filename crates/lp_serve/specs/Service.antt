@@ -33,7 +33,7 @@ Steps v old (x ∷ xs) w new =
 
 -- ---- the asks of a link
 
--- as `take` reads them; a link ends where none comes
+-- what the reading of a link's next request gives: the request, or the end of the link where none comes
 abbrev pub TakesAsk : Option (List ℕ) → Option (List ℕ) → LinesState → LinesState → Result ExactAsk LinkEnd → Type 0
 TakesAsk before after old new (Ok asked) =
     TakesNext Alone before after old new (Ok (Some (record { session = 0; ask = asked })))
@@ -47,7 +47,8 @@ TakesAsk before after old new (Err end.Write) = ⊥
 
 -- ---- the whole service
 
--- the exchanges of a link's session, whose steps are all that the pass did
+-- a link was served, with these bytes and this end, in exchanges of its session whose steps are all that the pass did:
+-- what it knew, v, became w
 pub record ServesBy (s : Streams) (v w : View) (ended : LinkEnd) : Type 0 where
   pub exchanges : List Exchange
   pub last : State

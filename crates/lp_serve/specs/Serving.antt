@@ -19,7 +19,7 @@ use Rattle.lp_serve.specs.declared.fault.ServeFault.TheVariants as fault
 
 -- ---- one link
 
--- as it was given and as it came back, with what its session had, and how it ended
+-- a link that was served: as it was given, as it came back, the exchanges of its session, and how it ended
 pub record Served : Type 0 where
   pub given : LinkState
   pub back : LinkState
@@ -63,7 +63,7 @@ ends_of served = map (λ links. map (λ (x : Served). x.ended) links) served
 abbrev pub exchanges_of : List (List Served) → List (List (List Exchange))
 exchanges_of served = map (λ links. map (λ (x : Served). x.exchanges) links) served
 
--- a state for one that is not there
+-- the state that stands for a listener that is not there
 abbrev pub no_listener : ListenerState
 no_listener = record { log = None; accept_faults = 0 }
 
@@ -73,7 +73,8 @@ SomeFailed olds news =
     (i : ℕ) × (i < length olds)
     × Rose (slice_index_or olds i no_listener).accept_faults (slice_index_or news i no_listener).accept_faults
 
--- what was written, by the answer: a line for each link, or a prefix of them
+-- What was written, by the result: where all went well a line for each link, of which each listener gave `each`; where
+-- some listener has failed a line for each link; where writing failed or memory ran out a beginning of these lines.
 abbrev pub Writes : ℕ → List ListenerState → List ListenerState → List (List Served) → Option (List ℕ) →
     Option (List ℕ) → Result (Unit {0}) ServeFault → Type 0
 Writes each olds news served before after (Ok u) =
@@ -90,8 +91,8 @@ pub record IsUnserved (olds news : List ListenerState) (served : List (List Serv
   pub same : news ≡ olds
   pub none : All (λ links. links ≡ []) served
 
--- The links of each listener, one list for each of them. Their sessions had their exchanges over so many places, by as
--- many workers as there are listeners.
+-- A server has served the links of its listeners, with as many workers as listeners over so many places, and written
+-- how they ended; or there was no memory for the workers, and no link was given.
 pub record Serves (places each : ℕ) (olds news : List ListenerState) (before after : Option (List ℕ))
     (result : Result (Unit {0}) ServeFault) : Type 0 where
   pub served : List (List Served)

@@ -18,7 +18,8 @@ fn rooms(alloc: Global, count: usize, each: u32) -> Result<Vec<Vec<LinkEnd>>, Al
     Ok(rooms)
 }
 
-// A desk for each listener, in their order, each with one of as many rooms. The listeners leave their room empty.
+// A desk for each listener, in their order, each with one of as many rooms. The listeners leave their room empty; where
+// memory runs out, they stay.
 fn seat<N: Drop>(
     alloc: Global,
     nets: &mut Vec<N>,
@@ -49,7 +50,7 @@ fn seat<N: Drop>(
 }
 
 /// A desk for each listener, in their order, with room for the ends of so many links. The listeners leave their room
-/// empty.
+/// empty; where memory runs out, they stay.
 pub(crate) fn man<N: Drop>(
     alloc: Global,
     nets: &mut Vec<N>,
@@ -65,7 +66,7 @@ pub(crate) fn man<N: Drop>(
     seat(alloc, nets, rooms, each)
 }
 
-/// The listeners in their order, in the room that they left.
+/// Takes the listeners out of the desks, and puts them in their order into the vector, in the room that they left.
 pub(crate) fn leave<N: Drop>(mut desks: Vec<Desk<N>>, nets: &mut Vec<N>)
     requires empty { nets.old.items ≡ [] }
     requires room { vec_len desks ≤ vec_capacity nets.old }

@@ -26,7 +26,7 @@ pub(crate) fn word(end: LinkEnd) -> &'static str
     }
 }
 
-// Writes the line of a link.
+// Appends the line of a link: its worker's number, its own number, and the word for how it ended.
 #[tactic(auto, unfolding(spec_serve::specs::Lines::end_line))]
 fn print_end(
     alloc: Global,
@@ -42,7 +42,7 @@ fn print_end(
     to.extend(line.as_bytes())
 }
 
-// Writes the lines of one worker's links.
+// Appends the lines of one worker's links, which are numbered from 1.
 fn print_ends(
     alloc: Global,
     worker: u64,

@@ -22,6 +22,7 @@ pub enum ServeFault {
 impl From<WriteFault> for ServeFault {
     ghost from_gives = { λ _ fault. fault ≡ Write };
 
+    // The fault of a sink that failed: `Write`.
     fn from(_: WriteFault) -> Self {
         ServeFault::Write
     }
@@ -30,6 +31,7 @@ impl From<WriteFault> for ServeFault {
 impl From<AllocError> for ServeFault {
     ghost from_gives = { λ _ fault. fault ≡ NoMemory };
 
+    // The fault for memory that was refused: `NoMemory`.
     fn from(_: AllocError) -> Self {
         ServeFault::NoMemory
     }

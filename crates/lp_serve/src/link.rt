@@ -23,7 +23,7 @@ use lp_session::Session;
 use spec_serve::LinkEnd;
 use std::alloc::Global;
 
-// Whether a session is asked to end.
+// Whether the request is `QUIT`, after whose reply the link ends.
 fn is_quit(ask: &Ask) -> bool
     ensures { result ≡ links.is_quit ask.now }
 {
@@ -33,8 +33,8 @@ fn is_quit(ask: &Ask) -> bool
     }
 }
 
-// Reads the next request. Where none comes, the link ends. `take` writes nothing, so no write ends it (its clause
-// `taken`).
+// Reads the next request. Where none comes, the error says how the link ends. `take` writes nothing, so no write ends
+// it (its clause `taken`).
 fn next_ask<L: Link>(alloc: Global, lines: &mut Lines, link: &mut L) -> Result<Ask, LinkEnd>
     ensures asks { TakesAsk (L.left link.old) (L.left link.new) lines.old lines.new result }
     ensures cause { (L.read_faults link.old ≤ L.read_faults link.new)
@@ -73,7 +73,8 @@ fn send_reply<L: Link>(alloc: Global, reply: &Reply, link: &mut L) -> Result<(),
     }
 }
 
-// Counts a command that got this reply, and what it took if it is an answer.
+// Adds to the work one command, which got this reply. If the reply is what `SOLVE` ended with, the pivots and flips of
+// the session's last answer are added too.
 fn count(work: &mut LinkWork, reply: &Reply, session: &Session) {
     work.commands = work.commands.saturating_add(1);
     if let Reply::Known(_) | Reply::Past(_) | Reply::Spent(_) = reply {
@@ -82,7 +83,8 @@ fn count(work: &mut LinkWork, reply: &Reply, session: &Session) {
     }
 }
 
-// Answers the requests of a link, from the start of its lines and of its session.
+// Answers the requests of a link, from the start of its lines and of its session, until it is asked to quit, no more
+// comes, or something fails. It gives how the link ended, and adds to the work what was done.
 fn serve_asks<L: Link>(
     alloc: Global,
     link: &mut L,
@@ -127,7 +129,7 @@ fn serve_asks<L: Link>(
 }
 
 /// Serves the session of a link over a board that others may share: each reply is sent before the next command is read.
-/// It adds to the work what is done, of which no clause speaks.
+/// It gives how the link ended. It adds to the work what is done, of which no clause speaks.
 pub fn serve_link<L: Link>(
     alloc: Global,
     link: &mut L,

@@ -25,7 +25,8 @@ fn some_failed<N>(desks: &[Desk<N>]) -> bool
     desks.iter().any(|desk| desk.has_failed)
 }
 
-// A sink that failed goes before a listener that did.
+// How serving ended: with the fault of the writing, of the sink or of memory, if there was one; else with `Accept`, if
+// a listener failed; else well.
 fn ended(said: Result<(), ServeFault>, has_failed: bool) -> Result<(), ServeFault>
     ensures { result ≡ ended_with said has_failed }
 {
@@ -40,7 +41,8 @@ fn ended(said: Result<(), ServeFault>, has_failed: bool) -> Result<(), ServeFaul
     }
 }
 
-// Serves the links of listeners at desks, by one worker for each desk. The desks stay.
+// Serves the links of listeners at desks, by one worker for each desk, and then writes a line for each link. Where
+// there is no memory for the workers, it does neither. The desks stay.
 fn serve_desks<R: Threads + Wait + Sync, N: Listen + Send + Drop, K: Sink>(
     rt: &R,
     alloc: Global,
@@ -67,9 +69,9 @@ where
     ended(said, has_failed)
 }
 
-/// Serves so many links of each listener, one after the other, each listener by a worker of its own. Their sessions
-/// share so many places. Then it writes a line for each link: its worker and its number with that worker, both counted
-/// from 1, and how it ended. A worker stops where its listener fails to give a link.
+/// Where there is memory for the workers, serves so many links of each listener, one after the other, each listener by
+/// a worker of its own, in sessions that share so many places. Then it writes a line for each link: its worker and its
+/// number with that worker, both from 1, and how it ended. A worker stops where its listener fails to give a link.
 pub fn serve<R: Threads + Wait + Sync, N: Listen + Send + Drop, K: Sink>(
     rt: &R,
     alloc: Global,
