@@ -37,12 +37,15 @@ use Rattle.lp_command_line.proofs.OptionLemmas.{value-look_up, options-some, opt
 -- ---- options after plain words
 
 module _ (row : Row) (words : List (List ℕ)) (enough : row.plain words ≤ length words) where
+  -- the plain words that the row of a command takes of these words, with these options
   abbrev given : Options → Given
   given options = record { plain = take (row.plain words) words; options = options }
 
+  -- what the row asks with its plain words and these options; none where there are no options
   abbrev asked : Option Options → Option ExactLine
   asked options = option_and_then row.asks (option_map given options)
 
+  -- what words ask by a row is what it asks with the options that the words behind its plain ones give
   asks : asked_by words row ≡ asked (options_in row.names row.switches (drop (row.plain words) words))
   unfolding given_in
   asks =
@@ -50,11 +53,11 @@ module _ (row : Row) (words : List (List ℕ)) (enough : row.plain words ≤ len
       option_and_then row.asks (cond t (option_map given (options_in row.names row.switches (drop (row.plain words) words))) None))
       (le-leb (row.plain words) (length words) enough)
 
-  -- words that are no options ask nothing
+  -- where the words behind the plain ones are no options of the row, the words ask nothing by it
   pub refused : are_in row.names row.switches (drop (row.plain words) words) ≡ false → asked_by words row ≡ None
   refused e = asks ∙ ap asked (options-none row.names row.switches (drop (row.plain words) words) e)
 
-  -- others ask what is asked with the pairs that they are
+  -- where the words behind the plain ones are options of the row, the words ask what it asks with their pairs
   taken : are_in row.names row.switches (drop (row.plain words) words) ≡ true →
       (options : Options) ×
       (asked_by words row ≡ row.asks (given options)) ×
@@ -64,12 +67,16 @@ module _ (row : Row) (words : List (List ℕ)) (enough : row.plain words ≤ len
 -- ---- a script, or a text: no plain words
 
 module _ (words : List (List ℕ)) where
+  -- a command without plain words has enough of them
   at_once : 0 ≤ length words
   at_once = omega arith
 
+  -- words behind `run` that are not its options ask nothing
   pub run-refused : are_in run_row.names run_row.switches words ≡ false → asked_by words run_row ≡ None
   run-refused = refused run_row words at_once
 
+  -- words behind `run` that are its options ask for a run with the numbers of workers and places that they give, if
+  -- these are right
   pub asks-run : (workers places : Option ℕ) → are_in run_row.names run_row.switches words ≡ true →
       workers_given (value_in [] (codes "--workers") words) ≡ workers →
       places_given (value_in [] (codes "--places") words) ≡ places → asked_by words run_row ≡ run_by workers places
@@ -84,9 +91,11 @@ module _ (words : List (List ℕ)) where
       ∙ ap (run_by workers) are_places
 
   module _ (command : ExactTextCommand) where
+    -- words behind a command on a text that are not its options ask nothing
     pub text-refused : are_in (text_row command).names (text_row command).switches words ≡ false → asked_by words (text_row command) ≡ None
     text-refused = refused (text_row command) words at_once
 
+    -- words behind a command on a text that are its options ask for it in the form that they give, if that is right
     pub asks-text : (style : Option Style) → are_in (text_row command).names (text_row command).switches words ≡ true →
         form_given (value_in [] (codes "--form") words) ≡ style →
         asked_by words (text_row command) ≡ option_map (Read command) style
@@ -99,13 +108,17 @@ module _ (words : List (List ℕ)) where
 -- ---- a text, with numbers of any width where that is asked for
 
 module _ (words : List (List ℕ)) (narrow wide : ExactTextCommand) where
+  -- the switches of a command on a text that may take `--wide`
   abbrev switches : OptionNames
   switches = (wide_row narrow wide).switches
 
+  -- words behind a command that may take `--wide` that are not its options ask nothing
   pub wide-refused : are_in (wide_row narrow wide).names switches words ≡ false →
       asked_by words (wide_row narrow wide) ≡ None
   wide-refused = refused (wide_row narrow wide) words (at_once words)
 
+  -- words behind a command that may take `--wide` that are its options ask for it in the form and the width that they
+  -- give, if the form is right
   pub asks-wide : (style : Option Style) → are_in (wide_row narrow wide).names switches words ≡ true →
       form_given (value_in switches (codes "--form") words) ≡ style →
       asked_by words (wide_row narrow wide)
@@ -132,6 +145,7 @@ few-generate f (a ∷ b ∷ c ∷ words) few = absurd (omega (arith, few))
 -- words behind the three
 module _ {X : Type 0} (f : X → List ℕ) (behind : List X) (a b c : List ℕ) (words : List (List ℕ))
     (cut : words ≡ a ∷ b ∷ c ∷ map f behind) where
+  -- more than three words behind `gen` ask nothing
   pub many-generate : (length behind == 0) ≡ false → asked_by words generate_row ≡ None
   many-generate some =
       ap (λ (ws : List (List ℕ)). asked_by ws generate_row) cut
@@ -142,6 +156,7 @@ module _ {X : Type 0} (f : X → List ℕ) (behind : List X) (a b c : List ℕ) 
       by (x ∷ []) h = refl
       by (x ∷ y ∷ rest) h = refl
 
+  -- words of which none stands behind the first three are these three
   pub three-words : (length behind == 0) ≡ true → words ≡ a ∷ b ∷ c ∷ []
   three-words none = cut ∙ ap (λ ws. a ∷ b ∷ c ∷ ws) (by behind none)
     where
@@ -179,12 +194,15 @@ first-word f (u ∷ words) x a enough is_x is_a =
     ∙ ap (λ n. a ∷ map f (take n words)) behind
 
 module _ (address : List ℕ) (words all : List (List ℕ)) (cut : all ≡ address ∷ words) where
+  -- the address and the words behind it are at least one word
   one_more : 1 ≤ length (address ∷ words)
   one_more = omega arith
 
+  -- the words ask by the row of `serve` what their first word and those behind it ask
   same_line : asked_by all serve_row ≡ asked_by (address ∷ words) serve_row
   same_line = ap (λ (ws : List (List ℕ)). asked_by ws serve_row) cut
 
+  -- the command `serve` with these options where the test says that the address is right; else none
   abbrev by_address : Options → Bool → Option ExactLine
   by_address options test =
       cond test
@@ -192,6 +210,7 @@ module _ (address : List ℕ) (words all : List (List ℕ)) (cut : all ≡ addre
       (links_given (look_up (codes "--each") options)) (places_given (look_up (codes "--places") options)))
       None
 
+  -- words behind `serve` whose first one may be no address ask nothing
   pub no-address : is_plain address ≡ false → asked_by all serve_row ≡ None
   no-address e = same_line ∙ asks serve_row (address ∷ words) one_more ∙ each (options_in serve_row.names serve_row.switches words)
     where
@@ -199,9 +218,12 @@ module _ (address : List ℕ) (words all : List (List ℕ)) (cut : all ≡ addre
       each None = refl
       each (Some options) = ap (by_address options) e
 
+  -- an address behind `serve`, with words behind it that are not its options, asks nothing
   pub serve-refused : are_in serve_row.names serve_row.switches words ≡ false → asked_by all serve_row ≡ None
   serve-refused e = same_line ∙ refused serve_row (address ∷ words) one_more e
 
+  -- an address behind `serve`, with words behind it that are its options, asks for a server with the numbers that they
+  -- give, if these are right
   pub asks-serve : is_plain address ≡ true → are_in serve_row.names serve_row.switches words ≡ true →
       asked_by all serve_row ≡ serve_in words
   asks-serve holds e =
@@ -238,19 +260,24 @@ first-two f (u ∷ v ∷ words) x y a b enough is_x is_y is_a is_b =
     ∙ ap (λ n. a ∷ b ∷ map f (take n words)) behind
 
 module _ (what name : List ℕ) (words all : List (List ℕ)) (cut : all ≡ what ∷ name ∷ words) where
+  -- the kind, the name and the words behind them are at least two words
   two_more : 2 ≤ length (what ∷ name ∷ words)
   two_more = omega arith
 
+  -- the words ask by the row of one number's range what their first two words and those behind them ask
   same_number : asked_by all number_row ≡ asked_by (what ∷ name ∷ words) number_row
   same_number = ap (λ (ws : List (List ℕ)). asked_by ws number_row) cut
 
+  -- the range of one number in this form, with the name where the test says that it is one; else none
   abbrev by_name : Option Style → Option Moved → Bool → Option ExactLine
   by_name style moved test = range_by moved (cond test (Some name) None) style
 
+  -- without a name no range of one number is asked
   no_place : (style : Option Style) (moved : Option Moved) → by_name style moved false ≡ None
   no_place style None = refl
   no_place style (Some w) = refl
 
+  -- words behind `range` whose second one may be no name ask for the range of no number
   pub no-name : is_plain name ≡ false → asked_by all number_row ≡ None
   no-name e = same_number ∙ asks number_row (what ∷ name ∷ words) two_more ∙ each (options_in number_row.names number_row.switches words)
     where
@@ -260,9 +287,12 @@ module _ (what name : List ℕ) (words all : List (List ℕ)) (cut : all ≡ wha
           ap (by_name (form_given (look_up (codes "--form") options)) (moved_of what)) e
           ∙ no_place (form_given (look_up (codes "--form") options)) (moved_of what)
 
+  -- a kind and a name behind `range`, with words behind them that are not its options, ask for the range of no number
   pub number-refused : are_in number_row.names number_row.switches words ≡ false → asked_by all number_row ≡ None
   number-refused e = same_number ∙ refused number_row (what ∷ name ∷ words) two_more e
 
+  -- a kind and a name behind `range`, with words behind them that are its options, ask for the range of that number, if
+  -- the kind and the form are right
   pub asks-number : (moved : Option Moved) → is_plain name ≡ true → are_in number_row.names number_row.switches words ≡ true →
       moved_of what ≡ moved → asked_by all number_row ≡ option_and_then (λ w. range_in w name words) moved
   asks-number moved holds e is_moved =
@@ -281,7 +311,7 @@ unfolding given_in
 few-range f [] few = refl
 few-range f (x ∷ words) few = absurd (omega (arith, few))
 
--- the rows by whether the first word is that for all
+-- the row of `range` for all numbers: it takes one plain word, `all`
 abbrev all_row : Row
 all_row = record {
   plain = λ words. 1;
@@ -291,13 +321,16 @@ all_row = record {
 }
 
 module _ (what : List ℕ) (words all : List (List ℕ)) (cut : all ≡ what ∷ words) where
+  -- the first word behind `range` and those behind it are at least one word
   more_words : 1 ≤ length (what ∷ words)
   more_words = omega arith
 
+  -- what these words ask by the row of `range`: with one plain word where the test holds, else with two
   abbrev counted : Bool → Option ExactLine
   counted t =
       option_and_then range_row.asks (given_in (cond t 1 2) range_row.names range_row.switches (what ∷ words))
 
+  -- where the first word behind `range` is `all`, the words ask what the ones behind it ask of a text for all ranges
   pub asks-all : is_all what ≡ true → asked_by all range_row ≡ asked_by words (text_row text.RangeAll)
   asks-all e =
       ap (λ (ws : List (List ℕ)). asked_by ws range_row) cut
@@ -313,6 +346,7 @@ module _ (what : List ℕ) (words all : List (List ℕ)) (cut : all ≡ what ∷
           ap (λ (t : Bool).
           cond t (option_map (Read text.RangeAll) (form_given (look_up (codes "--form") options))) None) e
 
+  -- where the first word behind `range` is not `all`, the words ask what they ask by the row of one number's range
   pub asks-one : is_all what ≡ false → asked_by all range_row ≡ asked_by all number_row
   asks-one e =
       ap (λ (ws : List (List ℕ)). asked_by ws range_row) cut
@@ -321,6 +355,7 @@ module _ (what : List ℕ) (words all : List (List ℕ)) (cut : all ≡ what ∷
 
 -- ---- a command, by the word that names it
 
+-- a table of the words of all commands, each with the command of the code
 abbrev pub command_words : List (List ℕ × Command)
 command_words =
     (codes "run", command.Run)
@@ -334,6 +369,7 @@ command_words =
     ∷ (codes "serve", command.Serve)
     ∷ []
 
+-- the row of the definitions' table for a command of the code
 abbrev pub row_of : Command → Row
 row_of command.Run = run_row
 row_of (command.Read asked) = text_row (spelled_text asked)

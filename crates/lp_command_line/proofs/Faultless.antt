@@ -1,7 +1,7 @@
 -- A word is at fault exactly where the words are no command line.
 --
 -- `all_fault`: where the first word behind `range` is `all`, the fault is that of the options behind the word.
--- `one_fault`: where it does not, the fault is that of the words for one number.
+-- `one_fault`: where the first word behind `range` is not `all`, the fault is that of the words for one number.
 -- `no-told_fault`: where the fault found is the definition's, there is none exactly if the words are a command line.
 use Rattle.std.proofs.Common.{◌≡◌, ℕ, Bool, true, false, ◌&&◌, not, cond, List, [], ◌∷◌, Option, Some, None}
 use Rattle.std.proofs.Common.{arith, refl, sym, ap, ◌∙◌}
@@ -38,7 +38,7 @@ use Rattle.lp_command_line.proofs.Asking.{no-name, number-refused, asks-number, 
 
 -- ---- one fault, or another
 
--- the first of two faults is missing exactly where both are
+-- there is no first of two faults exactly where there is neither
 neither : (a b : Option Fault) (x y : Bool) → is_none a ≡ x → is_none b ≡ y → is_none (option_or a b) ≡ (x && y)
 neither None b x y ex ey = ey ∙ ap (λ t. t && y) ex
 neither (Some fault) b x y ex ey = ap (λ t. t && y) ex
@@ -64,11 +64,13 @@ no-more_fault names option again fault test rest = by (is_one_of option names) (
     by true false = rest
     by false given = refl
 
--- an option and the words behind it
+-- the fault of an option and the words behind it, by its own name and whether it is given again, or else that of the
+-- words
 abbrev fault_with : OptionNames → OptionNames → Word → List Word → Option Fault
 fault_with names switches option rest =
     behind_option names option (value_in switches option rest) (option_fault names switches rest)
 
+-- whether an option is a new one of these names, and the words behind it are options with them
 abbrev are_with : OptionNames → OptionNames → Word → List Word → Bool
 are_with names switches option rest =
     cond (is_new_option names option (value_in switches option rest)) (are_in names switches rest) false
@@ -101,6 +103,7 @@ no-option_fault names switches (option ∷ value ∷ words) =
 
 module _ {A : Type 0} (usual : A) (of : Word → Option A) (switches : OptionNames) (name : Word) (words : List Word)
   where
+    -- the value of an option has no fault exactly where the option is absent or its value gives something
     no-value_fault : is_none (value_fault switches name words (is_some (given_or usual of (value_in switches name words))))
         ≡ is_some (given_or usual of (value_in switches name words))
     no-value_fault = by (value_in switches name words) refl
@@ -123,27 +126,35 @@ no-plain_fault plain word false = refl
 -- ---- each command
 
 module _ (words : List Word) where
+  -- the number of workers that the words give, 1 without `--workers`; none for a wrong value
   abbrev workers : Option ℕ
   workers = workers_given (value_in [] (codes "--workers") words)
 
+  -- the number of places that the words give, 256 without `--places`; none for a wrong value
   abbrev places : Option ℕ
   places = places_given (value_in [] (codes "--places") words)
 
+  -- the number of links that the words give, 1 without `--each`; none for a wrong value
   abbrev links : Option ℕ
   links = links_given (value_in [] (codes "--each") words)
 
+  -- the form of texts that the words give, free without `--form`; none for a wrong value
   abbrev form : OptionNames → Option Style
   form switches = form_given (value_in switches (codes "--form") words)
 
+  -- the value of `--workers` has no fault exactly where the words give a number of workers
   no-workers_fault : is_none (workers_fault words) ≡ is_some workers
   no-workers_fault = no-value_fault usual_workers workers_of [] (codes "--workers") words
 
+  -- the value of `--places` has no fault exactly where the words give a number of places
   no-places_fault : is_none (places_fault words) ≡ is_some places
   no-places_fault = no-value_fault usual_places places_of [] (codes "--places") words
 
+  -- the value of `--each` has no fault exactly where the words give a number of links
   no-links_fault : is_none (links_fault words) ≡ is_some links
   no-links_fault = no-value_fault usual_links links_of [] (codes "--each") words
 
+  -- the value of `--form` has no fault exactly where the words give a form of texts
   no-form_fault : (switches : OptionNames) → is_none (form_fault switches words) ≡ is_some (form switches)
   no-form_fault switches = no-value_fault Free form_of switches (codes "--form") words
 
@@ -200,6 +211,7 @@ no-wide_fault narrow wide words =
     by false e = ap is_some (sym (wide-refused words narrow wide e))
 
 module _ (x y : Bool) where
+  -- tests of which the second is false do not all hold
   no_name : ((x && false) && y) ≡ false
   no_name = by x
     where
@@ -207,6 +219,7 @@ module _ (x y : Bool) where
       by true = refl
       by false = refl
 
+  -- tests of which the third is false do not all hold
   no_options : ((x && true) && (false && y)) ≡ false
   no_options = by x
     where
@@ -335,6 +348,7 @@ one_fault what words all cut e =
 
 -- ---- all of them
 
+-- for a command of the code, what finds the fault of the words behind its word
 abbrev pub fault_of : Command → List Word → Option Fault
 fault_of command.Run = run_fault
 fault_of (command.Read asked) = text_fault

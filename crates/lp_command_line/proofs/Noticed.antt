@@ -29,7 +29,7 @@ version_alone : command_line_of (codes "--version" ∷ []) ≡ None
 unfolding command_line_of
 version_alone = refl
 
--- the usage is no option, number or address of any command
+-- the word `--help` alone behind `gen` is no command
 generates_nothing : asked_by (codes "--help" ∷ []) (row_of command.Generate) ≡ None
 unfolding given_in
 generates_nothing = refl

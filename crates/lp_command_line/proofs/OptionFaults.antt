@@ -17,7 +17,7 @@ use Rattle.lp_command_line.specs.declared.fault.WordFault.TheVariants.{NoOption,
 use Rattle.lp_command_line.specs.WordFaults.{Fault, told, lone_fault, behind_option, option_fault}
 use Rattle.lp_command_line.proofs.OptionLemmas.{any-bytes, first-lone, first-more, no-more, lone-none}
 
--- a fault or another, as they are told
+-- the first of two faults that there is, told with the bytes of its words, is the first of the two as they are told
 told-or : (a b : Option (WordFault (Bor (List ℕ)))) → told (option_or a b) ≡ option_or (told a) (told b)
 told-or None b = refl
 told-or (Some fault) b = refl
@@ -54,11 +54,13 @@ module _ (names : List (Bor (List ℕ))) (switches : OptionNames) (all rest : Li
     (option value : List ℕ) (more : List (List ℕ))
     (cut : first_in switches rest ≡ Some (record { option = option; value = value; behind = more })) (known : Bool)
     (is_known : known ≡ list_any (λ name. same option name.now) names) where
+  -- the fault of words by their first option: its own, or else that of the words behind it
   abbrev fault_by : Cut → Option Fault
   fault_by c =
       behind_option (bytes_of names) c.option (value_in switches c.option c.behind)
       (option_fault (bytes_of names) switches c.behind)
 
+  -- the fault of words that have a first option is the one by that option
   fault-cut : (words : List (List ℕ)) (c : Cut) → first_in switches words ≡ Some c →
       option_fault (bytes_of names) switches words ≡ fault_by c
   unfolding first_in
@@ -67,29 +69,36 @@ module _ (names : List (Bor (List ℕ))) (switches : OptionNames) (all rest : Li
       first-lone switches fault_by option c e (Some (lone_fault (bytes_of names) option))
   fault-cut (option ∷ value ∷ words) c e = first-more switches fault_by option value words c e
 
+  -- the fault by two tests: whether the first option has one of the names, and whether it is given again behind
   abbrev decided : Bool → Bool → Option Fault
   decided t given =
       cond t (cond given (Some (Twice option)) (option_fault (bytes_of names) switches more)) (Some (NoOption option))
 
+  -- the fault of all words is decided by whether the first option is known, and whether it is given again behind
   first : option_fault (bytes_of names) switches all ≡ decided known (is_some (value_in switches option more))
   first =
       sym invariant
       ∙ fault-cut rest (record { option = option; value = value; behind = more }) cut
       ∙ ap (λ t. decided t (is_some (value_in switches option more))) (sym (any-bytes option names) ∙ sym is_known)
 
+  -- where the first option left has none of the names, the fault of all words is that it is no option
   pub unknown-fault : known ≡ false → Some (NoOption option) ≡ option_fault (bytes_of names) switches all
   unknown-fault u = sym (first ∙ ap (λ t. decided t (is_some (value_in switches option more))) u)
 
   module _ (k : known ≡ true) (found : Option (List ℕ)) (is_found : found ≡ value_in switches option more) where
+    -- where the first option has one of the names, the fault of all words is decided by whether it is given again
+    -- behind
     second : option_fault (bytes_of names) switches all ≡ decided true (is_some found)
     second =
         first
         ∙ ap (λ t. decided t (is_some (value_in switches option more))) k
         ∙ ap (λ (o : Option (List ℕ)). decided true (is_some o)) (sym is_found)
 
+    -- where the first option left is given again behind, the fault of all words is that it is given twice
     pub twice-fault : is_some found ≡ true → Some (Twice option) ≡ option_fault (bytes_of names) switches all
     twice-fault g = sym (second ∙ ap (decided true) g)
 
+    -- where the first option left is known and not given again, the fault of all words is that of the words behind it
     pub more-fault : is_some found ≡ false →
         option_fault (bytes_of names) switches more ≡ option_fault (bytes_of names) switches all
     more-fault g = sym (second ∙ ap (decided true) g)

@@ -22,12 +22,14 @@ use Rattle.lp_command_line.specs.Words.{Cut, first_in, value_in, is_new_option, 
 -- ---- the first option
 
 module _ (switches : OptionNames) where
+  -- no words have no first option
   pub cut-none : {X : Type 0} (f : X → List ℕ) (words : List X) → length words < 1 →
       first_in switches (map f words) ≡ None
   unfolding first_in
   cut-none f [] h = refl
   cut-none f (x ∷ words) h = absurd (omega (arith, h))
 
+  -- words that begin with a switch have it as first option, with the empty value and the words behind it
   pub cut-switch : (words : List (List ℕ)) (option : List ℕ) (behind : List (List ℕ)) → words ≡ option ∷ behind →
       is_one_of option switches ≡ true →
       first_in switches words ≡ Some (record { option = option; value = []; behind = behind })
@@ -42,6 +44,7 @@ module _ (switches : OptionNames) where
           cond t (Some (record { option = option; value = []; behind = value ∷ words }))
           (Some (record { option = option; value = value; behind = words }))) h
 
+  -- a word alone that is no switch is no first option
   pub cut-short : {X : Type 0} (f : X → List ℕ) (words : List (List ℕ)) (option : List ℕ) (behind : List X) →
       words ≡ option ∷ map f behind → length behind < 1 → is_one_of option switches ≡ false →
       first_in switches words ≡ None
@@ -51,6 +54,8 @@ module _ (switches : OptionNames) where
       ∙ ap (λ t. cond t (Some (record { option = option; value = []; behind = [] })) None) h
   cut-short f words option (x ∷ behind) cut l h = absurd (omega (arith, l))
 
+  -- words that begin with no switch have their first word as first option, with the second as its value and the words
+  -- behind both
   pub cut-value : (words : List (List ℕ)) (option value : List ℕ) (behind : List (List ℕ)) →
       words ≡ option ∷ value ∷ behind → is_one_of option switches ≡ false →
       first_in switches words ≡ Some (record { option = option; value = value; behind = behind })
@@ -63,6 +68,7 @@ module _ (switches : OptionNames) where
 
   -- what is said by the first option, if there is one
   module _ {A : Type 0} (said : Cut → A) where
+    -- what is said of a lone word by whether it is a switch is what is said of the first option that it is
     pub first-lone : (option : List ℕ) (c : Cut) → first_in switches (option ∷ []) ≡ Some c → (none : A) →
         cond (is_one_of option switches) (said (record { option = option; value = []; behind = [] })) none ≡ said c
     unfolding first_in
@@ -73,6 +79,7 @@ module _ (switches : OptionNames) where
         by true h = let is : ◌≡◌ {A = Cut} (record { option = option; value = []; behind = [] }) c = cc in ap said is
         by false h = absurd (none-some c h)
 
+    -- what is said of at least two words by whether the first is a switch is what is said of their first option
     pub first-more : (option value : List ℕ) (words : List (List ℕ)) (c : Cut) →
         first_in switches (option ∷ value ∷ words) ≡ Some c →
         cond (is_one_of option switches) (said (record { option = option; value = []; behind = value ∷ words }))
@@ -90,7 +97,7 @@ module _ (switches : OptionNames) where
         by false h =
             let is : ◌≡◌ {A = Cut} (record { option = option; value = value; behind = words }) c = cc in ap said is
 
-  -- no option is first of no words, and of a lone one that has no value
+  -- at least two words always have a first option
   pub no-more : {B : Type 0} (option value : List ℕ) (words : List (List ℕ)) →
       first_in switches (option ∷ value ∷ words) ≡ None → B
   unfolding first_in
@@ -102,6 +109,7 @@ module _ (switches : OptionNames) where
       by true h = absurd (none-some _ (sym h))
       by false h = absurd (none-some _ (sym h))
 
+  -- a lone word that is no first option is no switch
   pub lone-none : (option : List ℕ) → first_in switches (option ∷ []) ≡ None → is_one_of option switches ≡ false
   unfolding first_in
   lone-none option e = by (is_one_of option switches) e
@@ -113,10 +121,12 @@ module _ (switches : OptionNames) where
 -- ---- the value of an option
 
 module _ (switches : OptionNames) (name : List ℕ) where
-  -- by the first option
+  -- the value of the named option by the first option: that one's value if it has the name, else that among the words
+  -- behind
   abbrev pub value_by : Cut → Option (List ℕ)
   value_by c = cond (same name c.option) (Some c.value) (value_in switches name c.behind)
 
+  -- the value of the named option among words that have a first option is the one by that option
   pub value-cut : (words : List (List ℕ)) (c : Cut) → first_in switches words ≡ Some c →
       value_in switches name words ≡ value_by c
   unfolding first_in
@@ -124,12 +134,14 @@ module _ (switches : OptionNames) (name : List ℕ) where
   value-cut (option ∷ []) c e = first-lone switches value_by option c e None
   value-cut (option ∷ value ∷ words) c e = first-more switches value_by option value words c e
 
+  -- words without a first option do not have the named option
   pub value-none : (words : List (List ℕ)) → first_in switches words ≡ None → value_in switches name words ≡ None
   value-none [] e = refl
   value-none (option ∷ []) e =
       ap (λ t. cond t (cond (same name option) (Some []) None) None) (lone-none switches option e)
   value-none (option ∷ value ∷ words) e = no-more switches option value words e
 
+  -- the value of the named option is that of the first option if this has the name, else that among the words behind it
   pub value-first : (words : List (List ℕ)) (option value : List ℕ) (more : List (List ℕ)) (test : Bool) →
       first_in switches words ≡ Some (record { option = option; value = value; behind = more }) →
       same name option ≡ test →
@@ -144,6 +156,7 @@ module _ (switches : OptionNames) (name : List ℕ) where
 module _ (switches : OptionNames) (name option value : List ℕ) (words : List (List ℕ))
     (rest : (options : Options) → in_pairs switches words ≡ Some options →
     value_in switches name words ≡ look_up name options) where
+  -- where the value read among words is that of their pairs, it is so with one pair more before them
   pushed : (options : Options) →
       option_map (λ pairs. (option, value) ∷ pairs) (in_pairs switches words) ≡ Some options →
       cond (same name option) (Some value) (value_in switches name words) ≡ look_up name options
@@ -187,7 +200,7 @@ value-look_up switches name (option ∷ value ∷ words) options e =
     by true h alone paired = alone options h
     by false h alone paired = paired options h
 
--- a name among the pairs
+-- a name has a value among options exactly if it is one of their names
 given-one_of : (name : List ℕ) (options : Options) →
     is_some (look_up name options) ≡ is_one_of name (map (λ o. o.0) options)
 given-one_of name [] = refl
@@ -219,9 +232,11 @@ and_false true = refl
 and_false false = refl
 
 module _ (names switches : OptionNames) (option value : List ℕ) (words : List (List ℕ)) where
+  -- whether the option has one of the names and is not given again behind
   abbrev is_new : Bool
   is_new = is_new_option names option (value_in switches option words)
 
+  -- where the test of words one by one is that of their pairs, it is so with one option more before them
   more-pairs : are_in names switches words ≡ pairs_are names (in_pairs switches words) →
       cond is_new (are_in names switches words) false
       ≡ pairs_are names (option_map (λ pairs. (option, value) ∷ pairs) (in_pairs switches words))
@@ -320,17 +335,21 @@ module _ (names : List (Bor (List ℕ))) (switches : OptionNames) (all rest : Li
     (option value : List ℕ) (more : List (List ℕ))
     (cut : first_in switches rest ≡ Some (record { option = option; value = value; behind = more })) (known : Bool)
     (is_known : known ≡ list_any (λ name. same option name.now) names) where
+  -- whether the first option is one of the names' texts is whether it is known
   one : is_one_of option (bytes_of names) ≡ known
   one = sym (any-bytes option names) ∙ sym is_known
 
+  -- whether words are options by two tests: whether the first option is known, and whether it is given again behind
   abbrev decided : Bool → Bool → Bool
   decided t given = cond (t && not given) (are_in (bytes_of names) switches more) false
 
+  -- whether words are options by their first option: it is a new one, and the words behind it are options
   abbrev are_by : Cut → Bool
   are_by c =
       cond (is_new_option (bytes_of names) c.option (value_in switches c.option c.behind))
       (are_in (bytes_of names) switches c.behind) false
 
+  -- whether words that have a first option are options is what that option and the words behind it say
   are-cut : (words : List (List ℕ)) (c : Cut) → first_in switches words ≡ Some c →
       are_in (bytes_of names) switches words ≡ are_by c
   unfolding first_in
@@ -338,25 +357,30 @@ module _ (names : List (Bor (List ℕ))) (switches : OptionNames) (all rest : Li
   are-cut (option ∷ []) c e = first-lone switches are_by option c e false
   are-cut (option ∷ value ∷ words) c e = first-more switches are_by option value words c e
 
+  -- whether all words are options is decided by whether the first option is known, and whether it is given again behind
   first : are_in (bytes_of names) switches all ≡ decided known (is_some (value_in switches option more))
   first =
       sym invariant
       ∙ are-cut rest (record { option = option; value = value; behind = more }) cut
       ∙ ap (λ t. decided t (is_some (value_in switches option more))) one
 
+  -- where the first option left has none of the names, all words are no options
   pub are-unknown : known ≡ false → false ≡ are_in (bytes_of names) switches all
   are-unknown u = sym (first ∙ ap (λ t. decided t (is_some (value_in switches option more))) u)
 
   module _ (k : known ≡ true) (found : Option (List ℕ)) (is_found : found ≡ value_in switches option more) where
+    -- where the first option is known, whether all words are options is decided by whether it is given again behind
     second : are_in (bytes_of names) switches all ≡ decided true (is_some found)
     second =
         first
         ∙ ap (λ t. decided t (is_some (value_in switches option more))) k
         ∙ ap (λ (o : Option (List ℕ)). decided true (is_some o)) (sym is_found)
 
+    -- where the first option left is given again behind, all words are no options
     pub are-again : is_some found ≡ true → false ≡ are_in (bytes_of names) switches all
     are-again g = sym (second ∙ ap (decided true) g)
 
+    -- where the first option left is known and not given again, all words are options exactly if those behind it are
     pub are-more : is_some found ≡ false →
         are_in (bytes_of names) switches more ≡ are_in (bytes_of names) switches all
     are-more g = sym (second ∙ ap (decided true) g)

@@ -4,7 +4,7 @@ use Rattle.std.proofs.Common.{sym, ap, ◌∙◌}
 use Rattle.std.proofs.Math.Seq.{take-length}
 
 module _ {X : Type 0} (f : X → List ℕ) where
-  -- the first three texts, and the words behind them
+  -- the texts of at least three words are those of the first three and of the words behind them
   pub first-words : (words : List X) (x y z : X) (a b c : List ℕ) → 3 ≤ length words → x ≡ get_or words 0 x →
       y ≡ get_or words 1 y → z ≡ get_or words 2 z → a ≡ f x → b ≡ f y → c ≡ f z →
       map f words ≡ a ∷ b ∷ c ∷ map f (take (length words - 3) (drop 3 words))

@@ -15,11 +15,11 @@ use Rattle.lp_command_line.specs.declared.fault.WordFault.{WordFault}
 use Rattle.lp_command_line.specs.declared.fault.WordFault.TheVariants.{NoWord, NoCommand, TooFew, NotPlain}
 use Rattle.lp_command_line.specs.declared.fault.WordFault.TheVariants.{NoOption, Twice, NoValue, NotValue}
 
--- a fault with the word that is at fault
+-- why words are no command line, with the bytes of the word that is at fault
 abbrev pub Fault : Type 0
 Fault = WordFault Word
 
--- a fault with the words themselves, as the code has them behind references
+-- the code's fault, with the bytes of its words in place of references to them
 abbrev pub spelled : WordFault (Bor (List ℕ)) → Fault
 spelled NoWord = NoWord
 spelled (NoCommand word) = NoCommand word.now
@@ -30,7 +30,7 @@ spelled (Twice word) = Twice word.now
 spelled (NoValue word) = NoValue word.now
 spelled (NotValue option value) = NotValue option.now value.now
 
--- the fault of the words with its words spelled, where there is a fault
+-- the code's fault, if there is one, with the bytes of its words in place of references to them
 abbrev pub told : Option (WordFault (Bor (List ℕ))) → Option Fault
 told = option_map spelled
 
@@ -38,12 +38,14 @@ told = option_map spelled
 abbrev pub lone_fault : OptionNames → Word → Fault
 lone_fault names option = if is_one_of option names then NoValue option else NoOption option
 
--- an option is none of these, or is given again in the words behind it, or the fault is one of those
+-- the fault of an option: that it has none of these names, or that it is given again behind; else the fault of the
+-- words behind it, if there is one
 abbrev pub behind_option : OptionNames → Word → Option Word → Option Fault → Option Fault
 behind_option names option again fault =
     if is_one_of option names then (if is_some again then Some (Twice option) else fault) else Some (NoOption option)
 
--- a word where an option is due is none of these, is given again behind its value, or has no value; a switch has none
+-- the first fault of these options: one of another name, given twice, or without its value; none if there is none.
+-- Switches have no value
 abbrev pub option_fault : OptionNames → OptionNames → List Word → Option Fault
 option_fault names switches [] = None
 option_fault names switches (option ∷ []) =
@@ -55,12 +57,13 @@ option_fault names switches (option ∷ value ∷ words) =
     else
     behind_option names option (value_in switches option words) (option_fault names switches words)
 
--- the value of this option, unless something is given by it, or by there being none
+-- the fault of the value of the option with this name; none where the flag says that the value gives something, or
+-- where the option is absent
 abbrev pub value_fault : OptionNames → Word → List Word → Bool → Option Fault
 value_fault switches name words true = None
 value_fault switches name words false = option_map (NotValue name) (value_in switches name words)
 
--- the fault of a word that should be an address, a number or a name; none where it is right
+-- the fault of a word that should be an address, a number or a name; none where the flag says that it is right
 abbrev pub plain_fault : Plain → Word → Bool → Option Fault
 plain_fault plain word true = None
 plain_fault plain word false = Some (NotPlain plain word)
@@ -101,7 +104,8 @@ abbrev pub wide_fault : List Word → Option Fault
 wide_fault words =
     option_or (option_fault (codes "--form" ∷ codes "--wide" ∷ []) wide_switch words) (form_fault wide_switch words)
 
--- the fault of the words behind `range` that name one number and may choose a form, if one has a fault
+-- the fault of the words behind `range` that name one number and may choose a form: that they are too few, or that of
+-- the first that has a fault; none if they are right
 abbrev pub number_fault : List Word → Option Fault
 number_fault (what ∷ name ∷ words) =
     option_or
@@ -109,12 +113,14 @@ number_fault (what ∷ name ∷ words) =
     (text_fault words)
 number_fault words = Some TooFew
 
--- behind the word for all numbers, or of the words for one
+-- the fault of the words behind `range`, of those behind `all` or of those for one number: that they are too few, or
+-- that of the first that has a fault; none if they are right
 abbrev pub range_fault : List Word → Option Fault
 range_fault [] = Some TooFew
 range_fault (what ∷ words) = if is_all what then text_fault words else number_fault (what ∷ words)
 
--- the fault of the words behind `generate`, if one has a fault
+-- the fault of the words behind `gen`: that they are too few, or that of the first that has a fault; none if they are
+-- right
 abbrev pub generate_fault : List Word → Option Fault
 generate_fault (seed ∷ rows ∷ columns ∷ words) =
     option_or
@@ -124,7 +130,8 @@ generate_fault (seed ∷ rows ∷ columns ∷ words) =
     (option_fault [] [] words)
 generate_fault words = Some TooFew
 
--- the fault of the words behind `serve`, if one has a fault
+-- the fault of the words behind `serve`: that there is none, or that of a word that has a fault, the address first,
+-- then the options' names and then their values; none if they are right
 abbrev pub serve_fault : List Word → Option Fault
 serve_fault [] = Some TooFew
 serve_fault (address ∷ words) =
@@ -137,7 +144,7 @@ serve_fault (address ∷ words) =
     (links_fault words))
     (places_fault words)
 
--- the commands' words, each with the fault of the words behind it
+-- a table of the commands' words, each with what finds the fault of the words behind it
 abbrev pub faults : List (Word × (List Word → Option Fault))
 faults =
     (codes "run", run_fault)

@@ -15,14 +15,14 @@ use Rattle.lp_command_line.specs.declared.listening.Serving.{Serving}
 abbrev pub bytes_of : List (Bor (List ℕ)) → List (List ℕ)
 bytes_of names = map (λ name. name.now) names
 
--- the first option, its value, and the words behind them
+-- what options begin with: the first option, its value, and the words behind them
 pub record Cut : Type 0 where
   pub option : List ℕ
   pub value : List ℕ
   pub behind : List (List ℕ)
 
--- A switch has the empty value, and takes no word behind it for one. Nothing where no word is left, or one that has no
--- value.
+-- The first option of these words, with its value and the words behind; a switch has the empty value. None where no
+-- word is left, or the last one lacks its value.
 unfoldable pub first_in : OptionNames → List (List ℕ) → Option Cut
 first_in switches [] = None
 first_in switches (option ∷ []) =
@@ -32,7 +32,8 @@ first_in switches (option ∷ value ∷ words) =
     then Some (record { option = option; value = []; behind = value ∷ words })
     else Some (record { option = option; value = value; behind = words })
 
--- the value of the option with this name, option by option
+-- the value of the first option with this name among these words, empty for a switch; none where it is not there, or is
+-- the last word and lacks its value
 abbrev pub value_in : OptionNames → List ℕ → List (List ℕ) → Option (List ℕ)
 value_in switches name [] = None
 value_in switches name (option ∷ []) =
@@ -42,11 +43,12 @@ value_in switches name (option ∷ value ∷ words) =
     then (if same name option then Some [] else value_in switches name (value ∷ words))
     else (if same name option then Some value else value_in switches name words)
 
--- an option has one of these names, and no value is given again under its name behind it
+-- whether an option has one of these names, and is not given again: `again` is its value among the words behind it, or
+-- none
 abbrev pub is_new_option : OptionNames → List ℕ → Option (List ℕ) → Bool
 is_new_option names option again = is_one_of option names && not (is_some again)
 
--- whether the words are options with these names, none of them given twice, option by option
+-- whether the words are options with these names, each with its value unless it is a switch, and none given twice
 abbrev pub are_in : OptionNames → OptionNames → List (List ℕ) → Bool
 are_in names switches [] = true
 are_in names switches (option ∷ []) =
@@ -59,16 +61,16 @@ are_in names switches (option ∷ value ∷ words) =
     else
     (if is_new_option names option (value_in switches option words) then are_in names switches words else false)
 
--- where a server listens, as the code has it
+-- where a server is to listen, and its number of workers, as the definition has what the code holds
 abbrev pub planned : Option Serving → Option Address
 planned None = None
 planned (Some serving) = Some (record { address = string_bytes serving.address.now; workers = serving.workers })
 
--- the option --wide, which has no value
+-- the list of the one switch --wide
 abbrev pub wide_switch : OptionNames
 wide_switch = codes "--wide" ∷ []
 
--- how the words for the range of one number are read: a word for the kind of number and a name, then options
+-- the row of `range` for one number: it takes two plain words, a kind of number and a name
 abbrev pub number_row : Row
 number_row = record {
   plain = λ words. 2;
@@ -77,11 +79,11 @@ number_row = record {
   asks = range_row.asks;
 }
 
--- the command line for the range of one number, by its options
+-- the command line for the range of one number, by these options; none where the form behind --form is wrong
 abbrev pub range_in : Moved → List ℕ → List (List ℕ) → Option ExactLine
 range_in moved name options = option_map (Read (Range moved name)) (form_given (value_in [] (codes "--form") options))
 
--- the command line of a server, by its options
+-- the command line of a server, by these options; none where one of their values is wrong
 abbrev pub serve_in : List (List ℕ) → Option ExactLine
 serve_in options =
     serve_by (workers_given (value_in [] (codes "--workers") options)) (links_given (value_in [] (codes "--each") options))

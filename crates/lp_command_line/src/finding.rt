@@ -13,7 +13,8 @@ use crate::line::{
 use lp_base::look_up;
 use lp_line::number_to;
 
-// The fault of the last word, where no option with its value is left: it names no option, or its value is missing.
+// The fault of the last word, where no option with its value is left: it names no option, or its value is missing. None
+// where no word is left.
 fn lone_fault<'a>(
     words: &'a [String],
     names: &[&str],
@@ -34,7 +35,8 @@ fn lone_fault<'a>(
     }
 }
 
-// The fault of the first word that is no option with one of these names, is given again, or has no value.
+// The fault of the first word that is no option with one of these names, is given again, or has no value; none if they
+// are right.
 fn option_fault<'a>(
     words: &'a [String],
     names: &[&str],
@@ -56,7 +58,8 @@ fn option_fault<'a>(
     lone_fault(rest, names, switches)
 }
 
-// The fault that the value of the option with this name is none it may have, unless `is_right`.
+// The fault that the value of the option with this name is none it may have; none where `is_right`, or where the option
+// is absent.
 fn value_fault<'a>(
     words: &'a [String],
     name: &'a [u8],
@@ -83,28 +86,28 @@ fn plain_fault(plain: Plain, word: &[u8], is_right: bool) -> Option<WordFault<&[
     Some(WordFault::NotPlain(plain, word))
 }
 
-// The fault of the value of `--workers`.
+// The fault that the value of `--workers` is none it may have; none if it is right, or the option is absent.
 fn workers_fault(options: &[String]) -> Option<WordFault<&[u8]>>
     ensures { told result ≡ faults.workers_fault (map string_bytes options.now) }
 {
     value_fault(options, b"--workers", &[], workers_in(options).is_some())
 }
 
-// The fault of the value of `--each`.
+// The fault that the value of `--each` is none it may have; none if it is right, or the option is absent.
 fn links_fault(options: &[String]) -> Option<WordFault<&[u8]>>
     ensures { told result ≡ faults.links_fault (map string_bytes options.now) }
 {
     value_fault(options, b"--each", &[], links_in(options).is_some())
 }
 
-// The fault of the value of `--places`.
+// The fault that the value of `--places` is none it may have; none if it is right, or the option is absent.
 fn places_fault(options: &[String]) -> Option<WordFault<&[u8]>>
     ensures { told result ≡ faults.places_fault (map string_bytes options.now) }
 {
     value_fault(options, b"--places", &[], places_in(options).is_some())
 }
 
-// The first fault of the words behind `run`.
+// The first fault of the words behind `run`; none if they are right.
 fn run_fault(words: &[String]) -> Option<WordFault<&[u8]>>
     ensures { told result ≡ faults.run_fault (map string_bytes words.now) }
 {
@@ -113,7 +116,7 @@ fn run_fault(words: &[String]) -> Option<WordFault<&[u8]>>
         .or(places_fault(words))
 }
 
-// The fault of the value of `--form`.
+// The fault that the value of `--form` is none it may have; none if it is right, or the option is absent.
 fn form_fault<'a>(words: &'a [String], switches: &[&str]) -> Option<WordFault<&'a [u8]>>
     ensures { told result ≡ faults.form_fault (bytes_of switches.now) (map string_bytes words.now) }
 {
@@ -121,21 +124,21 @@ fn form_fault<'a>(words: &'a [String], switches: &[&str]) -> Option<WordFault<&'
     value_fault(words, b"--form", switches, is_form)
 }
 
-// The first fault of the words behind a command that reads a text.
+// The first fault of the words behind a command that reads a text; none if they are right.
 fn text_fault(words: &[String]) -> Option<WordFault<&[u8]>>
     ensures { told result ≡ faults.text_fault (map string_bytes words.now) }
 {
     option_fault(words, &["--form"], &[]).or(form_fault(words, &[]))
 }
 
-// The first fault of the words behind a command that reads a text and may take `--wide`.
+// The first fault of the words behind a command that reads a text and may take `--wide`; none if they are right.
 fn wide_fault(words: &[String]) -> Option<WordFault<&[u8]>>
     ensures { told result ≡ faults.wide_fault (map string_bytes words.now) }
 {
     option_fault(words, &["--form", "--wide"], &WIDE).or(form_fault(words, &WIDE))
 }
 
-// The first fault of the words behind `range` for the range of one number.
+// The first fault of the words behind `range` for the range of one number; none if they are right.
 fn number_fault(words: &[String]) -> Option<WordFault<&[u8]>>
     ensures { told result ≡ faults.number_fault (map string_bytes words.now) }
 {
@@ -148,7 +151,7 @@ fn number_fault(words: &[String]) -> Option<WordFault<&[u8]>>
         .or(text_fault(options))
 }
 
-// The first fault of the words behind `range`.
+// The first fault of the words behind `range`; none if they are right.
 fn range_fault(words: &[String]) -> Option<WordFault<&[u8]>>
     ensures { told result ≡ faults.range_fault (map string_bytes words.now) }
 {
@@ -161,7 +164,7 @@ fn range_fault(words: &[String]) -> Option<WordFault<&[u8]>>
     number_fault(words)
 }
 
-// The first fault of the words behind `gen`.
+// The first fault of the words behind `gen`; none if they are right.
 #[tactic(auto, unfolding(spec_program::specs::CommandLine::row_count_of, spec_program::specs::CommandLine::column_count_of))]
 fn generate_fault(words: &[String]) -> Option<WordFault<&[u8]>>
     ensures { told result ≡ faults.generate_fault (map string_bytes words.now) }
@@ -180,7 +183,7 @@ fn generate_fault(words: &[String]) -> Option<WordFault<&[u8]>>
     seed.or(rows).or(columns).or(option_fault(behind, &[], &[]))
 }
 
-// The first fault of the words behind `serve`.
+// The first fault of the words behind `serve`; none if they are right.
 fn serve_fault(words: &[String]) -> Option<WordFault<&[u8]>>
     ensures { told result ≡ faults.serve_fault (map string_bytes words.now) }
 {
@@ -195,7 +198,7 @@ fn serve_fault(words: &[String]) -> Option<WordFault<&[u8]>>
         .or(places_fault(options))
 }
 
-// The first fault of the words, that of their command included.
+// The first fault of the words, that of their command included; none if they are a command line.
 #[tactic(auto, unfolding(crate::specs::WordFaults::word_fault))]
 fn first_fault(words: &[String]) -> Option<WordFault<&[u8]>>
     ensures { told result ≡ faults.word_fault (map string_bytes words.now) }

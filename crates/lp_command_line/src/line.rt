@@ -83,7 +83,8 @@ pub(crate) fn is_one_of(word: &[u8], names: &[&str]) -> bool
     names.iter().any(|name| are_same(word, name.as_bytes()))
 }
 
-/// The first option, its value, which is empty for a switch, and the words behind them.
+/// The first option, its value, which is empty for a switch, and the words behind them. None where no word is left, or
+/// the last one lacks its value.
 pub(crate) fn first_option<'a>(
     words: &'a [String],
     switches: &[&str],
@@ -106,7 +107,7 @@ pub(crate) fn first_option<'a>(
     Some((option, value.as_bytes(), behind))
 }
 
-/// The value of the first option with this name, if there is one.
+/// The value of the first option with this name, empty for a switch; none if the words do not have it.
 pub(crate) fn value_of<'a>(words: &'a [String], name: &[u8], switches: &[&str]) -> Option<&'a [u8]>
     ensures { option_copied result ≡ value_in (bytes_of switches.now) name.now (map string_bytes words.now) }
 {
@@ -181,7 +182,7 @@ pub(crate) fn form_in(options: &[String], switches: &[&str]) -> Option<Style>
     }
 }
 
-// The command line of `run` with these words behind it.
+// The command line of `run` with these words behind it; none if one of them is wrong.
 fn run_line(words: &[String]) -> Option<CommandLine<&[u8]>>
     ensures { told result ≡ asked_by (map string_bytes words.now) run_row }
 {
@@ -193,7 +194,7 @@ fn run_line(words: &[String]) -> Option<CommandLine<&[u8]>>
     Some(CommandLine::Run { workers, places })
 }
 
-// The command line of a command that reads a text, with these words behind it.
+// The command line of a command that reads a text, with these words behind it; none if one of them is wrong.
 fn text_line<'a>(
     command: TextCommand<&'static [u8]>,
     words: &'a [String],
@@ -222,7 +223,8 @@ fn command_by_width(
     }
 }
 
-// The command line of a command that reads a text and may take `--wide`, with these words behind it.
+// The command line of a command that reads a text and may take `--wide`, with these words behind it; none if one of
+// them is wrong.
 fn wide_line<'a>(
     narrow: TextCommand<&'static [u8]>,
     wide: TextCommand<&'static [u8]>,
@@ -239,7 +241,7 @@ fn wide_line<'a>(
     Some(CommandLine::Read(command, style))
 }
 
-/// The number of a model that the word names: a cost or a right side.
+/// The number of a model that the word names, a cost for `cost` and a right side for `rhs`; none for another word.
 pub(crate) fn moved_of(word: &[u8]) -> Option<Moved>
     ensures { result ≡ command_lines.moved_of word.now }
 {
@@ -256,7 +258,7 @@ pub(crate) fn is_plain(word: &[u8]) -> bool
     }
 }
 
-// The command line for the range of one number, with these options.
+// The command line for the range of one number, with these options; none if the value of `--form` is wrong.
 fn range_with<'a>(moved: Moved, name: &'a [u8], options: &[String]) -> Option<CommandLine<&'a [u8]>>
     ensures { told result ≡ range_in moved name.now (map string_bytes options.now) }
 {
@@ -264,14 +266,15 @@ fn range_with<'a>(moved: Moved, name: &'a [u8], options: &[String]) -> Option<Co
     Some(CommandLine::Read(TextCommand::Range { moved, name }, style))
 }
 
-/// Whether the word stands for the ranges of all numbers of a model.
+/// Whether the word is `all`, which stands for the ranges of all numbers of a model.
 pub(crate) fn is_all(word: &[u8]) -> bool
     ensures { result ≡ command_lines.is_all word.now }
 {
     are_same(word, b"all")
 }
 
-// The command line for the range of one number, with these words behind `range`.
+// The command line for the range of one number, with these words behind `range`; none if they are too few, or one of
+// them is wrong.
 fn number_line(words: &[String]) -> Option<CommandLine<&[u8]>>
     ensures { told result ≡ asked_by (map string_bytes words.now) number_row }
 {
@@ -286,7 +289,7 @@ fn number_line(words: &[String]) -> Option<CommandLine<&[u8]>>
     range_with(moved, name, options)
 }
 
-// The command line of `range` with these words behind it.
+// The command line of `range` with these words behind it; none if they are too few, or one of them is wrong.
 fn range_line(words: &[String]) -> Option<CommandLine<&[u8]>>
     ensures { told result ≡ asked_by (map string_bytes words.now) range_row }
 {
@@ -299,7 +302,7 @@ fn range_line(words: &[String]) -> Option<CommandLine<&[u8]>>
     number_line(words)
 }
 
-/// The seed that the word is, from 0 to 1,000,000.
+/// The seed that the word is, from 0 to 1,000,000; none for another word.
 #[tactic(auto, unfolding(spec_program::specs::CommandLine::seed_of))]
 pub(crate) fn seed_of(word: &[u8]) -> Option<u32>
     ensures { result ≡ command_lines.seed_of word.now }
@@ -328,7 +331,7 @@ fn generate_by<'a>(
     })
 }
 
-// The command line of `gen` with these words behind it.
+// The command line of `gen` with these words behind it; none if they are not three, or one of them is wrong.
 fn generate_line(words: &[String]) -> Option<CommandLine<&[u8]>>
     ensures { told result ≡ asked_by (map string_bytes words.now) generate_row }
 {
@@ -344,7 +347,7 @@ fn generate_line(words: &[String]) -> Option<CommandLine<&[u8]>>
     generate_by(seed, rows, columns)
 }
 
-// The command line of `serve` with these options.
+// The command line of `serve` with these options; none if the value of one is wrong.
 fn serve_with(options: &[String]) -> Option<CommandLine<&[u8]>>
     ensures { told result ≡ serve_in (map string_bytes options.now) }
 {
@@ -358,7 +361,7 @@ fn serve_with(options: &[String]) -> Option<CommandLine<&[u8]>>
     })
 }
 
-// The command line of `serve` with these words behind it.
+// The command line of `serve` with these words behind it; none if there is none, or one of them is wrong.
 fn serve_line(words: &[String]) -> Option<CommandLine<&[u8]>>
     ensures { told result ≡ asked_by (map string_bytes words.now) serve_row }
 {

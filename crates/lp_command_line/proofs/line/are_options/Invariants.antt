@@ -1,4 +1,4 @@
--- The words are options if those that are left are.
+-- The words are options exactly if those that are left are.
 use Rattle.std.proofs.Common.{◌≡◌, length, map}
 use Rattle.std.specs.Prelude.{string_bytes}
 use Rattle.lp_command_line.specs.Words.{bytes_of, are_in}
