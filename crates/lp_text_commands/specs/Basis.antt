@@ -14,13 +14,13 @@ pub record ReadingAt : Type 0 where
   pub limits : SizeLimits
   pub stage : reading.Stage
 
--- a step of reading a basis file, as one that keeps the limits on the sizes of texts beside the stage
+-- a step of reading the input of `basis`, with the limits of size kept beside a further stage
 abbrev pub step_within : SizeLimits → said.Step reading.Stage reading.BasisSaid →
     said.Step ReadingAt reading.BasisSaid
 step_within limits (said.On next) = said.On (record { limits = limits; stage = next })
 step_within limits (said.Says what) = said.Says what
 
--- one step of the reading of `basis`, within its limits
+-- what one more line of the input of `basis` leads to, within the limits that are kept beside the stage
 abbrev pub reading_step : ReadingAt → Line (List ℕ) → said.Step ReadingAt reading.BasisSaid
 reading_step at line = step_within at.limits (reading.basis_step at.limits at.stage line)
 
@@ -30,7 +30,7 @@ stage_of (stage.Text reader) =
     record { limits = reader.limits; stage = reading.InText reader.text.style reader.text.state reader.text.lines }
 stage_of (stage.File at) = record { limits = at.limits; stage = reading.InFile at.model at.form at.state at.lines }
 
--- a step of the code, as the definitions have it
+-- a step of the code's reading of a text and a basis file, as the definitions have it
 abbrev pub step_of : Step BasisStage reading.BasisSaid → said.Step ReadingAt reading.BasisSaid
 step_of made = step_by stage_of made
 
@@ -39,6 +39,7 @@ abbrev pub count_of : BasisStage → ℕ
 count_of (stage.Text reader) = reader.text.lines
 count_of (stage.File at) = at.lines
 
--- what lines of a text and a basis file lead to from a state of the code's reading on
+-- the answer is what these lines of a text and a basis file say from the code's stage on;
+-- none where more lines are needed
 abbrev pub BasisSays : BasisStage → List (Line (List ℕ)) → Option reading.BasisSaid → Type 0
 BasisSays stage lines answer = says_by stage_of reading_step stage lines answer

@@ -22,18 +22,19 @@ end_lines m solved =
     check_line (answer_of opening_budget solved.end) ++ reading.route_line solved
     ++ ended_lines (lines_of_solved m solved.end)
 
--- the lines that are written of an exact solve, without the basis of its answer
+-- the lines that are written of an exact solve, without the basis file of its answer
 abbrev pub exact_lines : Model → RationalEnd → List ℕ
 exact_lines m (Answered a) =
     ended_lines (wide_known_text a.known ∷ origin_text a.origin ∷ wide_certificate_lines m a.certificate)
 exact_lines m Open = ended_lines (wide_lines m Open)
 
--- the lines that are written of an exact solve, with the basis of its answer
+-- the lines that are written of an exact solve, with the basis file of its answer, if it has a basis and the model a
+-- form
 abbrev pub whole_lines : Model → Result Form (FormFault ℚ) → RationalEnd → List ℕ
 whole_lines m form (Answered a) = exact_lines m (Answered a) ++ based_text m form a.basis
 whole_lines m form Open = exact_lines m Open
 
--- the basis of its answer is one of the form
+-- if the exact solve has an answer with a basis, that is one of the form
 abbrev pub LeavesBased : Form → RationalEnd → Type 0
 LeavesBased f (Answered a) = IfSome a.basis (λ basis. IsBasisOf f basis)
 LeavesBased f Open = Unit {0}

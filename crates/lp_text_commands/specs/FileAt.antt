@@ -15,7 +15,7 @@ pub record FileAt : Type 0 where
   pub state : file.State
   pub lines : ℕ
 
--- the form is that of the model, and what was read gives a basis of it
+-- the form is that of the model, and the cards read so far give a basis of it
 pub record IsFileAt (at : FileAt) : Type 0 where
   pub formed : form_of (Some number_limit) at.model ≡ Ok at.form
   pub marking : IsMarking at.form at.state

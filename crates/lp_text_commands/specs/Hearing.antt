@@ -11,14 +11,14 @@ use Rattle.lp_line.specs.declared.halt.Halt.TheVariants as halts
 use Rattle.lp_text_commands.specs.declared.exit_status.ExitStatus.{ExitStatus}
 use Rattle.spec_server.specs.Streams.{Streams}
 
--- what may be said of lines is what this says of them
+-- whatever `Say` allows to be said of lines is what `said` says of them
 abbrev pub Agrees : {R : Type 0} → (List (Line (List ℕ)) → Option R → Type 0) → (List (Line (List ℕ)) → Option R) →
     Type 0
 Agrees {R} Say said = (lines : List (Line (List ℕ))) (answer : Option R) → Say lines answer → said lines ≡ answer
 
 -- ---- what is read
 
--- the most bytes that are read before they are needed
+-- the number 4,096: the most bytes that are read before they are needed
 abbrev pub buffer_len : ℕ
 buffer_len = 4096
 
@@ -34,8 +34,8 @@ pub record StopsSoon {R : Type 0} (said : List (Line (List ℕ)) → Option R) (
   pub are_lines : lines_of raw ≡ lines ++ last ∷ []
   pub few : length ahead < buffer_len
 
--- these bytes were read, and this is said of them; and little was read after the line that decides, unless no line
--- does, but the end of the input
+-- These bytes were read, and this is said of them. Less than a buffer was read behind the line that decides it, unless
+-- the end of the input decides it.
 pub record Hears {R : Type 0} (said : List (Line (List ℕ)) → Option R) (before after : Option (List ℕ))
     (what : R) : Type 0 where
   pub read : List ℕ
@@ -43,26 +43,27 @@ pub record Hears {R : Type 0} (said : List (Line (List ℕ)) → Option R) (befo
   pub is_said : IsSaid said after read what
   pub soon : StopsSoon said read what ⊎ (said (lines_of read) ≡ None)
 
--- nothing is said of the bytes that were read
+-- some bytes were read, and their lines do not decide what is said
 pub record HearsNothing {R : Type 0} (said : List (Line (List ℕ)) → Option R)
     (before after : Option (List ℕ)) : Type 0 where
   pub read : List ℕ
   pub consumed : Consumes before after read
   pub undecided : IsUndecided said read
 
--- there are more than may be read, of which no more than a buffer was read
+-- the input is longer than may be read, of which at most a buffer more was read, and nothing is said of it
 pub record HearsTooMuch {R : Type 0} (said : List (Line (List ℕ)) → Option R)
     (before after : Option (List ℕ)) : Type 0 where
   pub nothing : HearsNothing said before after
   pub over : input_limit < length nothing.read
   pub soon : length nothing.read ≤ input_limit + buffer_len
 
--- the source was read, and some bytes were taken of it
+-- some bytes of the source were read, of which nothing is asked
 pub record Reads (before after : Option (List ℕ)) : Type 0 where
   pub read : List ℕ
   pub consumed : Consumes before after read
 
--- what was read of the input, by the result of its lines or by why the reading halted
+-- What was read of the input, by the result: what is said of it; or, by the halt, a part of which nothing is said, too
+-- much, or some bytes where memory ran out. There is no other halt.
 abbrev pub HearsSo : {R : Type 0} → (List (Line (List ℕ)) → Option R) → Option (List ℕ) → Option (List ℕ) →
     Result R Halt → Type 0
 HearsSo said before after (Ok what) = Hears said before after what
@@ -74,7 +75,7 @@ HearsSo said before after (Err halts.Cut) = ⊥
 
 -- ---- what is written of what is said: an output that it may have, with its status
 
--- all of one was written
+-- something is said of what was read, the whole of an output that it may have was written, and the status is that of it
 pub record Says {R : Type 0} (said : List (Line (List ℕ)) → Option R) (Out : R → List ℕ → Type 0) (code_of : R → ℕ)
     (s : Streams) (code : ℕ) : Type 0 where
   pub what : R
@@ -84,7 +85,7 @@ pub record Says {R : Type 0} (said : List (Line (List ℕ)) → Option R) (Out :
   pub written : Appends s.taken_before s.taken_after output
   pub status : code ≡ code_of what
 
--- a prefix of one was written
+-- something is said of what was read, and a beginning of an output that it may have was written
 pub record SaysInPart {R : Type 0} (said : List (Line (List ℕ)) → Option R) (Out : R → List ℕ → Type 0)
     (s : Streams) : Type 0 where
   pub what : R
@@ -97,7 +98,8 @@ pub record SaysInPart {R : Type 0} (said : List (Line (List ℕ)) → Option R) 
 abbrev pub WritesNothing : Streams → Type 0
 WritesNothing s = Appends s.taken_before s.taken_after []
 
--- what was read and written, by the status or by what halted the command
+-- What was read and written, by the result: with a status, a whole output of what is said; if writing failed, a
+-- beginning of one; by any other halt nothing was written.
 abbrev pub SaysSo : {R : Type 0} → (List (Line (List ℕ)) → Option R) → (R → List ℕ → Type 0) → (R → ℕ) → Streams →
     Result ExitStatus Halt → Type 0
 SaysSo said Out code_of s (Ok status) = Says said Out code_of s status.code
@@ -107,7 +109,8 @@ SaysSo said Out code_of s (Err halts.NoMemory) = Reads s.left_before s.left_afte
 SaysSo said Out code_of s (Err halts.Write) = SaysInPart said Out s
 SaysSo said Out code_of s (Err halts.Cut) = ⊥
 
--- what a status says of the bytes that were read and written
+-- What a status says of what was read and written: 0 or 9, a whole output; 4, a beginning of one; 3, 5 or 8, nothing
+-- was written, as reading failed, memory ran out, or the input is too long.
 pub record TellsOf {R : Type 0} (said : List (Line (List ℕ)) → Option R) (Out : R → List ℕ → Type 0) (code_of : R → ℕ)
     (s : Streams) (code : ℕ) : Type 0 where
   pub done : (code ≡ 0) ⊎ (code ≡ 9) → Says said Out code_of s code

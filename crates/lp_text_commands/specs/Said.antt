@@ -7,20 +7,20 @@ use Rattle.spec_server.specs.declared.asks.Refusal.TheVariants as refusal
 use Rattle.spec_server.specs.Output.{check_line}
 use Rattle.spec_server.specs.TextSaid.{TextSaid}
 
--- what the input gives may be taken, where it gives something
+-- if the input gives something, that may be taken; of a fault nothing is asked
 abbrev pub MayTake : {G F : Type 0} → (G → Type 0) → Result G F → Type 0
 MayTake Takes (Ok given) = Takes given
 MayTake Takes (Err fault) = Unit {0}
 
--- what may be written of that; or the line of the fault
+-- this may be written of what an input says: what `Out` allows of what it gives, or the line of its fault
 abbrev pub SaidOut : {G F : Type 0} → (G → List ℕ → Type 0) → (F → List ℕ) → Result G F → List ℕ → Type 0
 SaidOut Out line (Ok given) written = Out given written
 SaidOut Out line (Err fault) written = written ≡ line fault
 
--- the line of a text that is refused
+-- the line that refuses a model's text with its fault
 abbrev pub misspelled_line : MpsFault → List ℕ
 misspelled_line fault = check_line (reply.Refused (refusal.Misspelled fault))
 
--- what may be written of a text: that of its model, or the line of its fault
+-- this may be written of a model's text: what `Out` allows of its model, or the line of its fault
 abbrev pub TextOut : (Model → List ℕ → Type 0) → TextSaid → List ℕ → Type 0
 TextOut Out said written = SaidOut Out misspelled_line said written

@@ -14,7 +14,7 @@ abbrev pub stage_of : CheckStage → reading.Stage
 stage_of (stage.Text reader) = reading.InText reader.style reader.state reader.lines
 stage_of (stage.Certificate model reader) = reading.InCertificate model reader.raw reader.lines
 
--- a step of the code, as the definitions have it
+-- a step of the code's reading of a text and a certificate, as the definitions have it
 abbrev pub step_of : Step CheckStage ExactReply → said.Step reading.Stage ExactReply
 step_of made = step_by stage_of made
 
@@ -23,6 +23,6 @@ abbrev pub count_of : CheckStage → ℕ
 count_of (stage.Text reader) = reader.lines
 count_of (stage.Certificate model reader) = reader.lines
 
--- what lines of a text and a certificate lead to from a state of the code's reading on
+-- the answer is what these lines of a text and a certificate say from the code's stage on; none where more are needed
 abbrev pub CheckSays : CheckStage → List (Line (List ℕ)) → Option ExactReply → Type 0
 CheckSays stage lines answer = says_by stage_of reading.check_step stage lines answer

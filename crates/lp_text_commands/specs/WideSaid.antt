@@ -7,12 +7,12 @@ use Rattle.lp_check.specs.declared.wide.certificate.Verdict.TheVariants as wide
 use Rattle.lp_text_commands.specs.declared.check.wide.WideSaid.{WideSaid}
 use Rattle.lp_text_commands.specs.declared.check.wide.WideSaid.TheVariants as said
 
--- the reply of a verdict
+-- the reply with a verdict of the wide check: yes with what is known, or no with the number of a condition
 abbrev pub verdict_reply : Verdict → ExactReply
 verdict_reply (wide.Yes what) = reply.Checked (verdict.Yes what)
 verdict_reply (wide.No n) = reply.Checked (verdict.No n)
 
--- the reply that says a verdict, or why there is none
+-- what the wide check says, as a reply: its verdict, or the refusal
 abbrev pub reply_of : WideSaid → ExactReply
 reply_of (said.Checked checked) = verdict_reply checked
 reply_of (said.Refused why) = reply.Refused why

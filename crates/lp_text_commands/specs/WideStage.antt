@@ -15,7 +15,7 @@ abbrev pub wide_stage_of : WideStage → reading.Stage
 wide_stage_of (stage.Text reader) = reading.InText reader.style reader.state reader.lines
 wide_stage_of (stage.Certificate model reader) = reading.InCertificate model reader.raw reader.lines
 
--- a step of the code, as the definitions have it
+-- a step of the code's reading of a text and a wide certificate, as the definitions have it
 abbrev pub wide_step_of : Step WideStage ExactReply → said.Step reading.Stage ExactReply
 wide_step_of made = step_by wide_stage_of made
 
@@ -24,6 +24,7 @@ abbrev pub wide_count_of : WideStage → ℕ
 wide_count_of (stage.Text reader) = reader.lines
 wide_count_of (stage.Certificate model reader) = reader.lines
 
--- what lines of a text and a certificate with numbers of any width lead to from a state of the code's reading on
+-- the answer is what these lines of a text and a wide certificate say from the code's stage on;
+-- none where more are needed
 abbrev pub WideSays : WideStage → List (Line (List ℕ)) → Option ExactReply → Type 0
 WideSays stage lines answer = says_by wide_stage_of wide_step stage lines answer

@@ -7,20 +7,21 @@ use Rattle.lp_line.specs.declared.halt.Halt.{Halt}
 use Rattle.lp_line.specs.declared.halt.Halt.TheVariants as halts
 use Rattle.lp_text_commands.specs.declared.exit_status.ExitStatus.{ExitStatus}
 
--- all of an output of this kind was written, and the exit status is `is_code`
+-- the whole of some output that `Out` allows was written, and the exit status is `is_code`
 pub record WritesAll (Out : List ℕ → Type 0) (is_code : ℕ) (before after : Option (List ℕ)) (code : ℕ) : Type 0 where
   pub output : List ℕ
   pub is_output : Out output
   pub written : Appends before after output
   pub status : code ≡ is_code
 
--- a prefix of one was written
+-- a beginning of some output that `Out` allows was written
 pub record WritesInPart (Out : List ℕ → Type 0) (before after : Option (List ℕ)) : Type 0 where
   pub output : List ℕ
   pub is_output : Out output
   pub written : Takes before after output
 
--- what was written, by the status or by what halted the command
+-- What was written, by the result: with a status, a whole output that `Out` allows; a beginning of one, if writing
+-- failed; nothing, if memory ran out. There is no other halt.
 abbrev pub WritesSo : (List ℕ → Type 0) → ℕ → Option (List ℕ) → Option (List ℕ) → Result ExitStatus Halt → Type 0
 WritesSo Out code before after (Ok status) = WritesAll Out code before after status.code
 WritesSo Out code before after (Err halts.Write) = WritesInPart Out before after
@@ -29,7 +30,8 @@ WritesSo Out code before after (Err halts.Read) = ⊥
 WritesSo Out code before after (Err halts.Cut) = ⊥
 WritesSo Out code before after (Err halts.Over) = ⊥
 
--- what was sent of a text that was printed with a status, by the status or by what halted the command
+-- What was written of a text that was printed with a status, by the result: all of it, with this status; a beginning,
+-- if writing failed; nothing, if memory ran out. There is no other halt.
 abbrev pub SendsSo : Result ExitStatus AllocError → List ℕ → Option (List ℕ) → Option (List ℕ) →
     Result ExitStatus Halt → Type 0
 SendsSo printed text before after (Ok status) = (printed ≡ Ok status) × Appends before after text

@@ -43,7 +43,7 @@ impl Command for SolveFrom {
 
     ghost is_written = { λ _ handed ended is. (solve_end ended, is, refl) };
 
-    // Solves the model, from its basis if it has one.
+    // Solves the model from its basis, or cold if it has none, within the budget of a new session.
     fn run(&self, alloc: Global, handed: &Handed) -> Result<(End, Route), AllocError> {
         match &handed.start {
             Some(start) => solve(alloc, &handed.model, OPENING_BUDGET, Some(&start.basis)),
@@ -51,7 +51,7 @@ impl Command for SolveFrom {
         }
     }
 
-    // Writes what the solve ended with, and its basis where the model has a form.
+    // Appends what the solve ended with, and after an optimum its basis file where the model has a form.
     fn write(
         &self,
         alloc: Global,

@@ -24,7 +24,7 @@ pub(crate) trait Command {
     // what may be written
     ghost may_write: { Self → Self.Given → List ℕ → Type 0 };
 
-    /// Carries the command out on the model or the basis file that it is given.
+    /// Makes the command's outcome of the model, or of the model and its basis, that it is given.
     fn run(&self, alloc: Global, given: &Self::Given) -> Result<Self::Outcome, AllocError>
         requires { takes self.now given.now }
         ensures { IfOk result (may_make self.now given.now) };

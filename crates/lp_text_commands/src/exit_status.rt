@@ -10,6 +10,7 @@ pub struct ExitStatus {
 }
 
 impl ExitStatus {
+    /// The command did all that it was asked.
     pub const DONE: ExitStatus = ExitStatus { code: 0 };
 
     /// The words are no command line.
@@ -21,6 +22,7 @@ impl ExitStatus {
     /// The sink failed.
     pub const WRITE: ExitStatus = ExitStatus { code: 4 };
 
+    /// Memory ran out.
     pub const NO_MEMORY: ExitStatus = ExitStatus { code: 5 };
 
     /// The input ended inside the body of a command.
@@ -41,6 +43,7 @@ impl From<Halt> for ExitStatus {
 
     ghost from_gives = { λ halt status. status.code ≡ code_behind halt };
 
+    // The status of a command that halted, by what halted it.
     fn from(halt: Halt) -> Self {
         match halt {
             Halt::Read => ExitStatus::READ,

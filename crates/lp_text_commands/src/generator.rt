@@ -47,7 +47,7 @@ impl Command for SolveMade {
         Ok(end)
     }
 
-    // Writes the size of the model, what the solve ended with, and its pivots.
+    // Appends the size of the model, what the solve ended with, and how many pivots and flips it made.
     #[tactic(auto, unfolding(spec_commands::specs::GenOut::generated_lines))]
     fn write(
         &self,
@@ -63,6 +63,7 @@ impl Command for SolveMade {
 }
 
 /// Makes the model of this seed, with so many rows and columns, and writes its size and what a solve of it ends with.
+/// Where memory runs out nothing is written.
 pub fn generate<K: Sink>(
     alloc: Global,
     seed: u32,
@@ -83,7 +84,7 @@ pub fn generate<K: Sink>(
     Ok(())
 }
 
-// The text that `gen` writes of the model that it made.
+// The text that `gen` writes of the model that it made: its size, and what a solve of it ends with.
 fn generated_text(alloc: Global, model: &Model) -> Result<Bytes, AllocError>
     requires { IsUsual model.now }
     ensures { IfOk result (SolvedOut model.now) }

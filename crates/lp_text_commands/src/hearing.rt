@@ -29,7 +29,8 @@ pub(crate) trait Output: Drop {
         ensures status { IfOk result (λ status. status.code ≡ code self) };
 }
 
-/// Reads the input that the source gives, and tells the result of its lines.
+/// Reads lines of the source up to the one at which something is said, or to its end, and gives what is said. An input
+/// that is longer than may be read is `Halt::Over`.
 pub(crate) fn hear_input<S: Source, T: Stage>(
     alloc: Global,
     first: T,
@@ -48,7 +49,8 @@ pub(crate) fn hear_input<S: Source, T: Stage>(
     }
 }
 
-/// Sends the text that was printed with this status, if memory sufficed for it.
+/// Writes the text to the sink, and gives the status with which it was printed. Where memory did not suffice for the
+/// text, nothing is written.
 pub(crate) fn send_printed<K: Sink>(
     printed: Result<ExitStatus, AllocError>,
     text: Bytes,
@@ -62,7 +64,8 @@ pub(crate) fn send_printed<K: Sink>(
     Ok(status)
 }
 
-/// Reads the input that the source gives, and writes the output of the result of its lines.
+/// Reads lines of the source up to the one at which something is said, or to its end, writes the output of what is said
+/// to the sink, and gives its status.
 pub(crate) fn say<S: Source, K: Sink, T: Stage>(
     alloc: Global,
     first: T,

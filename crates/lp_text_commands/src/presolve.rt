@@ -16,6 +16,7 @@ use lp_presolve::Presolved;
 use lp_solve::OPENING_BUDGET;
 use std::alloc::{AllocError, Global};
 
+/// The command `presolve`.
 #[derive(Drop)]
 pub(crate) struct Presolve;
 
@@ -39,7 +40,7 @@ impl Command for Presolve {
         lp_presolve::presolve(alloc, model, OPENING_BUDGET)
     }
 
-    // Writes the size of the smaller model and what the solve ended with.
+    // Appends the size of the smaller model, or why the model was solved as it is; and then what the solve ended with.
     #[tactic(auto, unfolding(spec_commands::specs::PresolveOut::presolved_lines))]
     fn write(
         &self,

@@ -44,12 +44,14 @@ impl Command for RangeAt {
 
     ghost is_written = { λ _ m ranged is. (solve_end (ranged.end, is.solved.0), is.solved.1, refl) };
 
-    // Solves the model, and ranges the basis of an optimum.
+    // Solves the model cold, and prepares the ranges of its numbers at the basis of an optimum, if the model has a
+    // form.
     fn run(&self, alloc: Global, model: &Model) -> Result<Ranged, AllocError> {
         solve_ranging(alloc, model)
     }
 
-    // Writes the answer, and the range of the number behind it.
+    // Appends the answer; and where ranges were prepared, that of the number, or the operation past 127 bits for which
+    // there is none.
     fn write(
         &self,
         alloc: Global,

@@ -33,7 +33,7 @@ impl Output for Reply {
     }
 }
 
-// The status of a reply: whether it refuses.
+// The exit status of a reply: `REFUSED` if it refuses, else `DONE`.
 fn status_of(reply: &Reply) -> ExitStatus
     ensures { result.code ≡ check_code reply.now }
 {

@@ -33,7 +33,8 @@ impl<C: Command<Given = Model> + Drop> Output for Said<C> {
 
     ghost code = { λ s. solve_code s.said };
 
-    // Runs the command on the model that was read, and adds what it writes; or adds the line of its fault.
+    // Runs the command on the model that was read, appends what it writes, and gives status 0. Where the text has a
+    // fault, it appends the fault's line and gives status 9.
     fn print(self, alloc: Global, to: &mut Bytes) -> Result<ExitStatus, AllocError> {
         let Said { said, command } = self;
         match said {
@@ -49,7 +50,8 @@ impl<C: Command<Given = Model> + Drop> Output for Said<C> {
     }
 }
 
-/// Reads the text that the source gives from its start on, and writes what the command makes of its model.
+/// Reads the text that the source gives from its start on, and writes what the command makes of its model, or the line
+/// of the text's fault.
 pub(crate) fn say_text<C: Command<Given = Model> + Drop, S: Source, K: Sink>(
     alloc: Global,
     text: Reader,

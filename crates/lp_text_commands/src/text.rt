@@ -22,7 +22,8 @@ use spec_mps::Style;
 use spec_program::TextCommand;
 use std::alloc::Global;
 
-/// Reads the text that the source gives, and writes what the command says of it.
+/// Reads the text that the source gives, and what follows it for `check` and `basis`. It writes to the sink what the
+/// command says of that, and gives the status; or what halts it, after none or a beginning of that.
 pub fn read_text<S: Source, K: Sink>(
     alloc: Global,
     command: TextCommand<&[u8]>,

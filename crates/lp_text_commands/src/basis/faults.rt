@@ -28,7 +28,7 @@ pub(crate) fn print_fault(
     }
 }
 
-// The number by which a fault of a basis file is known.
+// The number that stands behind `B` in the line of a fault of a basis file.
 fn code_number(code: BasCode) -> u64
     ensures { result ≡ checks.code_number code }
 {

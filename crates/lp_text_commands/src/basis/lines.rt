@@ -23,7 +23,7 @@ use lp_solve::End;
 use spec_runs::Route;
 use std::alloc::{AllocError, Global};
 
-/// Writes what a solve ended with, and its basis.
+/// Appends what a solve ended with, and after an optimum its basis as a file, if the end has one.
 pub(crate) fn print_whole(
     alloc: Global,
     model: &Model,
@@ -40,7 +40,7 @@ pub(crate) fn print_whole(
     print_final(alloc, model, form, &ended.0, to)
 }
 
-/// Writes the answer, how it was found, and its certificate.
+/// Appends the answer that a solve ended with, how it was found, and its certificate, without the basis file.
 pub(crate) fn print_end(
     alloc: Global,
     model: &Model,
@@ -55,7 +55,7 @@ pub(crate) fn print_end(
     print_certificate(alloc, model, &ended.0, to)
 }
 
-// Writes how the answer was found: cold, from the basis, or after the basis was given up.
+// Appends the word for how the answer was found: cold, from the basis, or after the basis was given up, and why it was.
 fn push_route(route: Route, to: &mut Bytes) -> Result<(), AllocError>
     ensures { OnOk result (to.new ≡ to.old ++ route_text route) }
 {
@@ -69,7 +69,8 @@ fn push_route(route: Route, to: &mut Bytes) -> Result<(), AllocError>
     }
 }
 
-// Writes from where a solve found what it ended with, and its pivots and flips.
+// Appends the line that says how the answer was found, with the number of its pivots and flips, or `-` where none is
+// given.
 fn print_route(
     alloc: Global,
     route: Route,
@@ -84,7 +85,7 @@ fn print_route(
     to.extend(b"\n")
 }
 
-// Writes the basis of an optimum, as a file.
+// Appends the basis of an optimum, as a file; nothing at another end, or one without a basis.
 fn print_final(
     alloc: Global,
     model: &Model,
@@ -106,7 +107,7 @@ fn print_final(
     }
 }
 
-/// Writes a basis of the model's form, as a file.
+/// Appends a basis of the model's form, as a basis file.
 pub(crate) fn print_basis(
     alloc: Global,
     model: &Model,

@@ -34,7 +34,8 @@ impl<C: Command<Given = Handed> + Drop> Output for SaidWithBasis<C> {
 
     ghost code = { λ s. reading.basis_code s.said };
 
-    // Runs the command on the model and basis that were read, and adds what it writes; or adds the line of their fault.
+    // Runs the command on the model and basis that were read, appends what it writes, and gives status 0. Where the
+    // text or the file has a fault, it appends the fault's line and gives status 9.
     fn print(self, alloc: Global, to: &mut Bytes) -> Result<ExitStatus, AllocError> {
         let SaidWithBasis { said, command } = self;
         match said {
@@ -53,7 +54,8 @@ impl<C: Command<Given = Handed> + Drop> Output for SaidWithBasis<C> {
     }
 }
 
-/// Reads the text of a model within these limits and the basis file after it, and writes what the command makes of that.
+/// Reads the text of a model within these limits and the basis file after it, and writes what the command makes of
+/// that, or the line of the first fault.
 pub(crate) fn say_basis<C: Command<Given = Handed> + Drop, S: Source, K: Sink>(
     alloc: Global,
     limits: SizeLimits,

@@ -21,6 +21,7 @@ use std::alloc::{AllocError, Global};
 /// What the text and the file say: a model to solve, or what is wrong.
 pub(crate) type BasisSaid = Result<Handed, BasisFault>;
 
+// A step of the reading: to a further stage, or to what the text and the file say.
 type BasisStep = Step<BasisStage, BasisSaid>;
 
 /// In the text of a model within some limits, or in the basis file after it.
@@ -48,7 +49,7 @@ impl Stage for BasisStage {
     }
 }
 
-// A file is read where the model has a form.
+// The step behind the text: to the basis file where the model has a form; else to the end, without a start.
 fn begin_file(alloc: Global, limits: SizeLimits, model: Model) -> Result<BasisStep, AllocError>
     ensures { IfOk result
         (λ step. step_of step ≡ step_within limits (begun_file model (form_of (Some number_limit) model))) }
@@ -63,7 +64,7 @@ fn begin_file(alloc: Global, limits: SizeLimits, model: Model) -> Result<BasisSt
     }
 }
 
-// At the start of a file.
+// The step to the start of the basis file of this form.
 fn open_file(
     alloc: Global,
     limits: SizeLimits,
@@ -88,7 +89,7 @@ fn open_file(
     }
 }
 
-// A line of the text.
+// The step by a line of the model's text: on in it, to the basis file behind it, or to its fault.
 #[tactic(auto, unfolding(spec_commands::specs::BasisOut::basis_step))]
 fn text_line(alloc: Global, mut reader: ReaderWithin, line: &Line) -> Result<BasisStep, AllocError>
     requires { reader.text.lines < 2 ^ 32 - 1 }
@@ -108,7 +109,7 @@ fn text_line(alloc: Global, mut reader: ReaderWithin, line: &Line) -> Result<Bas
     step
 }
 
-// A line of the file.
+// The step by a line of the basis file: on in it, to its end with the basis, or to its fault.
 #[tactic(auto, unfolding(spec_commands::specs::BasisOut::basis_step))]
 fn file_line(alloc: Global, file: FileStage, line: &Line) -> Result<BasisStep, AllocError>
     requires { file.lines < 2 ^ 32 - 1 }

@@ -25,6 +25,7 @@ use lp_solve::{ExactAnswer, ExactEnd, OPENING_BUDGET, solve_exactly};
 use spec_solve::Origin;
 use std::alloc::{AllocError, Global};
 
+/// The command `basis --wide`.
 #[derive(Drop)]
 pub(crate) struct SolveWideFrom;
 
@@ -43,7 +44,7 @@ impl Command for SolveWideFrom {
 
     ghost is_written = { λ _ handed end is. (end, is, refl) };
 
-    // Solves the model exactly, from its basis if it has one.
+    // Solves the model exactly from its basis, or cold if it has none, within the budget of a new session.
     fn run(&self, alloc: Global, handed: &Handed) -> Result<ExactEnd, AllocError> {
         match &handed.start {
             Some(start) => {
@@ -53,7 +54,8 @@ impl Command for SolveWideFrom {
         }
     }
 
-    // Writes what the exact solve ended with, and its basis where the model has a form.
+    // Appends what the exact solve ended with, and the basis file of its answer, if that has a basis and the model a
+    // form.
     fn write(
         &self,
         alloc: Global,
@@ -68,7 +70,7 @@ impl Command for SolveWideFrom {
     }
 }
 
-// Writes what an exact solve ended with, and its basis.
+// Appends what an exact solve ended with, and the basis of its answer as a file, if it has one.
 fn print_whole(
     alloc: Global,
     model: &Model,
@@ -88,7 +90,7 @@ fn print_whole(
     }
 }
 
-// Writes the answer, how it was found, and its certificate; or that nothing is known.
+// Appends the answer, where it was found, and its certificate; or `OPEN`, where the exact solve found no answer.
 fn print_end(alloc: Global, model: &Model, end: &ExactEnd, to: &mut Bytes) -> Result<(), AllocError>
     requires { HasFit model.now end.now }
     ensures { OnOk result (to.new ≡ to.old ++ exact_lines model.now end.now) }
@@ -99,7 +101,7 @@ fn print_end(alloc: Global, model: &Model, end: &ExactEnd, to: &mut Bytes) -> Re
     }
 }
 
-// Writes the answer, how it was found, and its certificate.
+// Appends the answer of an exact solve, where it was found, and its certificate.
 fn print_answer(
     alloc: Global,
     model: &Model,
@@ -119,7 +121,8 @@ fn print_answer(
     print_lines(&lines, to)
 }
 
-// Appends the words that tell from where an exact answer came.
+// Appends where an exact answer was found: `COLD`, or with the number of pivots `WARM` from the basis or `FELL` without
+// it.
 fn push_origin(alloc: Global, origin: Origin, to: &mut Bytes) -> Result<(), AllocError>
     ensures { OnOk result (to.new ≡ to.old ++ origin_text origin) }
 {
@@ -130,7 +133,7 @@ fn push_origin(alloc: Global, origin: Origin, to: &mut Bytes) -> Result<(), Allo
     }
 }
 
-// Writes the basis of an answer, as a file, where there is one.
+// Appends the basis of an answer, as a file, where there is one.
 fn print_based(
     alloc: Global,
     model: &Model,

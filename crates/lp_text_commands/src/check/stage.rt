@@ -12,6 +12,7 @@ use lp_model::{Model, UsualModel};
 use lp_mps::read::Reader;
 use std::alloc::{AllocError, Global};
 
+// A step of the reading: to a further stage, or to the reply.
 type CheckStep = Step<CheckStage, Reply>;
 
 /// In the text of a model, or in the certificate after it.
@@ -44,7 +45,7 @@ impl Stage for CheckStage {
     }
 }
 
-// A line of the text.
+// The step by a line of the model's text: on in it, to the certificate behind it, or to its refusal.
 #[tactic(auto, unfolding(spec_commands::specs::CheckOut::check_step))]
 fn text_line(alloc: Global, mut reader: Reader, line: &Line) -> Result<CheckStep, AllocError>
     requires { reader.lines < 2 ^ 32 - 1 }
@@ -63,7 +64,7 @@ fn text_line(alloc: Global, mut reader: Reader, line: &Line) -> Result<CheckStep
     step
 }
 
-// A line of the certificate.
+// The step by a line of the certificate: on in it, to the verdict at its end, or to its refusal.
 #[tactic(auto, unfolding(spec_commands::specs::CheckOut::check_step))]
 fn certificate_line(
     alloc: Global,
@@ -85,7 +86,8 @@ fn certificate_line(
     step
 }
 
-// The verdict on a certificate that was read whole.
+// The last step, which says the verdict on a certificate that was read whole, or which of its names does not fit the
+// model.
 fn verdict(alloc: Global, model: &Model, raw: RawCertificate) -> Result<CheckStep, AllocError>
     ensures { IfOk result (λ step. step_of step ≡ Says (machine.verdict_on model.now (certificate_for model.now raw))) }
 {

@@ -69,7 +69,7 @@ impl Output for WideReply {
     }
 }
 
-// The line of an optimal value.
+// Appends the line that says yes, with the optimal value, of any width.
 #[tactic(auto, unfolding(spec_commands::specs::CheckWideOut::wide_check_line))]
 fn print_optimal(alloc: Global, value: &Ratio, to: &mut Bytes) -> Result<(), AllocError>
     ensures { OnOk result (to.new ≡ to.old ++ wide_check_line (reply.Checked (verdict.Yes (known.Optimal value.now)))) }
@@ -80,7 +80,7 @@ fn print_optimal(alloc: Global, value: &Ratio, to: &mut Bytes) -> Result<(), All
     to.push(b'\n')
 }
 
-// The line of a reply without a number that may have any width, which is that of a check of 127 bits.
+// Appends the line of a reply without a wide number, as a check in 127 bits has it, and gives the exit status.
 fn print_narrow(alloc: Global, reply: Reply, to: &mut Bytes) -> Result<ExitStatus, AllocError>
     requires { wide_reply_text reply ≡ reply_text reply }
     ensures output { OnOk result (to.new ≡ to.old ++ wide_check_line reply) }
@@ -89,7 +89,7 @@ fn print_narrow(alloc: Global, reply: Reply, to: &mut Bytes) -> Result<ExitStatu
     reply.print(alloc, to)
 }
 
-// The line of a verdict.
+// Appends the line of a verdict, and gives the exit status.
 fn print_verdict(alloc: Global, verdict: Verdict, to: &mut Bytes) -> Result<ExitStatus, AllocError>
     ensures output { OnOk result (to.new ≡ to.old ++ wide_check_line (verdict_reply verdict)) }
     ensures status { IfOk result (λ status. status.code ≡ 0) }

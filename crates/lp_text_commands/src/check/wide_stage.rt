@@ -15,6 +15,7 @@ use lp_mps::read::LargeReader;
 use lp_ratio::Ratio;
 use std::alloc::{AllocError, Global};
 
+// A step of the reading: to a further stage, or to the reply.
 type WideStep = Step<WideStage, WideReply>;
 
 /// In the text of a model, or in the certificate after it.
@@ -47,7 +48,7 @@ impl Stage for WideStage {
     }
 }
 
-// A line of the text.
+// The step by a line of the model's text: on in it, to the certificate behind it, or to its refusal.
 #[tactic(auto, unfolding(spec_commands::specs::CheckWideOut::wide_step))]
 fn text_line(alloc: Global, mut reader: LargeReader, line: &Line) -> Result<WideStep, AllocError>
     requires { reader.lines < 2 ^ 32 - 1 }
@@ -69,7 +70,7 @@ fn text_line(alloc: Global, mut reader: LargeReader, line: &Line) -> Result<Wide
     step
 }
 
-// A line of the certificate.
+// The step by a line of the certificate: on in it, to the verdict at its end, or to its refusal.
 #[tactic(auto, unfolding(spec_commands::specs::CheckWideOut::wide_step))]
 fn certificate_line(
     alloc: Global,
@@ -94,7 +95,8 @@ fn certificate_line(
     step
 }
 
-// The verdict on a certificate that was read whole.
+// The last step, which says the verdict on a certificate that was read whole, or which of its names does not fit the
+// model.
 fn verdict_step(alloc: Global, model: &Model, raw: RawOf<Ratio>) -> Result<WideStep, AllocError>
     ensures { IfOk result (λ step. wide_step_of step
         ≡ Says (wide_verdict_on model.now (certificate_for model.now raw))) }
@@ -104,7 +106,8 @@ fn verdict_step(alloc: Global, model: &Model, raw: RawOf<Ratio>) -> Result<WideS
     Ok(Step::Says(said?))
 }
 
-// The verdict of `check --wide` on a certificate for a model.
+// What `check --wide` says of a certificate for a model: a verdict, or a refusal where the certificate does not fit the
+// model.
 fn verdict_on(alloc: Global, model: &Model, raw: &RawOf<Ratio>) -> Result<WideReply, AllocError>
     ensures { IfOk result (λ said. said ≡ wide_verdict_on model.now (certificate_for model.now raw.now)) }
 {

@@ -7,10 +7,13 @@ ghost use Rattle.spec_commands.specs.Generated.{number_from};
 use lp_frac::Frac;
 use std::marker::Model;
 
+// By what a state is multiplied for the next one.
 const MULTIPLIER: u64 = 1103515245;
 
+// What is added to that product.
 const INCREMENT: u64 = 12345;
 
+// 2^31: the next state is the remainder of that sum by it.
 const MODULUS: u64 = 2147483648;
 
 // The upper bits of a state are drawn, since the lower ones repeat too soon.
@@ -38,7 +41,7 @@ impl Draws {
         Draws { state: seed }
     }
 
-    /// Draws a number below 2^15.
+    /// Draws the next number, from 0 to below 2^15.
     #[tactic(auto, unfolding(spec_commands::specs::Draws::next, spec_commands::specs::Draws::draw))]
     pub fn draw(&mut self) -> u32
         ensures value { result ≡ draw self.old }

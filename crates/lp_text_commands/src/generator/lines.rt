@@ -35,7 +35,7 @@ fn count_entries(model: &Model) -> u64
     count
 }
 
-/// Writes how many pivots and flips a solve made.
+/// Appends the line of how many pivots and flips a solve made; `-` stands for them where it has no answer.
 pub(crate) fn print_pivots(alloc: Global, solved: &End, to: &mut Bytes) -> Result<(), AllocError>
     ensures { OnOk result (to.new ≡ to.old ++ codes "PIVOTS " ++ pivots_text (pivots_of_solved solved.now) ++ 10 ∷ []) }
 {

@@ -30,7 +30,7 @@ fn column_name(alloc: Global, j: u32) -> Result<Name, AllocError>
     Name::from_slice(alloc, text.as_bytes())
 }
 
-// Draws the entries of a column, one in three of the rows.
+// Draws the entries of a column, in about one of three of so many rows. Each is a whole number from 1 to 9.
 fn entries(alloc: Global, draws: &mut Draws, rows: u32) -> Result<Entries, AllocError>
     ensures entries { IfOk result (λ entries. entries ≡ generator.entries draws.old rows) }
     ensures state { OnOk result (draws.new ≡ generator.at_row draws.old rows) }
@@ -44,7 +44,8 @@ fn entries(alloc: Global, draws: &mut Draws, rows: u32) -> Result<Entries, Alloc
     Ok(entries)
 }
 
-// Draws column j: its cost, its upper bound, and its entries in so many rows.
+// Draws column j of a model of so many rows: its cost, its upper bound, and an entry in about one of three rows. Its
+// lower bound is 0.
 #[tactic(auto, unfolding(spec_commands::specs::Generated::generated_column))]
 fn column(alloc: Global, draws: &mut Draws, rows: u32, j: u32) -> Result<Column, AllocError>
     requires { j < column_limit }

@@ -30,7 +30,7 @@ pub(crate) fn print_end(alloc: Global, end: &End, to: &mut Bytes) -> Result<(), 
     print_answer(alloc, end, to)
 }
 
-/// Writes that nothing was found, since a solve of some sides gave up.
+/// Appends that no point is feasible, and in the line `STOPPED` with which reply a solve of some sides gave up.
 pub(crate) fn print_stopped(alloc: Global, end: &End, to: &mut Bytes) -> Result<(), AllocError>
     ensures { OnOk result
         (to.new ≡ to.old ++ ended_lines (codes "INFEASIBLE" ∷ (codes "STOPPED " ++ end_words end.now) ∷ [])) }
@@ -39,7 +39,8 @@ pub(crate) fn print_stopped(alloc: Global, end: &End, to: &mut Bytes) -> Result<
     print_end(alloc, end, to)
 }
 
-/// Writes the sides that were found, the certificate that no point meets them together, and the points.
+/// Appends that no point is feasible, the sides that were found, the certificate that no point meets them together, the
+/// points that meet all but one, and `END`.
 pub(crate) fn print_found(
     alloc: Global,
     model: &Model,
@@ -68,7 +69,7 @@ fn print_heading(alloc: Global, count: usize, to: &mut Bytes) -> Result<(), Allo
     to.extend(lines.as_bytes())
 }
 
-// The certificate is of the model with the sides alone.
+// Appends the lines of the certificate, which is one of the model with the sides alone.
 fn print_certificate(
     alloc: Global,
     model: &Model,

@@ -14,7 +14,7 @@ use lp_model::Model;
 use lp_numtext::write;
 use std::alloc::{AllocError, Global};
 
-// Writes the line of one column's value in a point.
+// Appends the line of a column's value in a point: `x`, the column's name and the value.
 fn print_text(alloc: Global, name: &[u8], value: Frac, to: &mut Bytes) -> Result<(), AllocError>
     ensures { OnOk result (to.new ≡ to.old ++ (written.part_text letter.X name.now value ++ 10 ∷ [])) }
 {
@@ -67,7 +67,7 @@ fn print_number(alloc: Global, number: u64, to: &mut Bytes) -> Result<(), AllocE
     to.extend(line.as_bytes())
 }
 
-// The point behind its number.
+// Appends a point: the line with its number, and a line for each value that is not 0.
 fn print_point(
     alloc: Global,
     model: &Model,

@@ -23,7 +23,7 @@ fn end_word(is_upper: bool) -> &'static [u8]
     if is_upper { b"UPPER " } else { b"LOWER " }
 }
 
-// The name of the row or column.
+// The name of the row or column whose side this is.
 fn name_of(model: &Model, side: Side) -> &[u8]
     requires { IsSide model.now side }
     ensures { result.now ≡ iis.side_name model.now side }
@@ -35,7 +35,7 @@ fn name_of(model: &Model, side: Side) -> &[u8]
     }
 }
 
-// Writes the line of one side.
+// Appends the line of a side: whether it is of a row or a column, upper or lower, and whose.
 #[tactic(auto, unfolding(spec_commands::specs::IisOut::side_line))]
 fn print_side(model: &Model, side: Side, to: &mut Bytes) -> Result<(), AllocError>
     requires { IsSide model.now side }

@@ -21,7 +21,7 @@ pub(crate) fn print_way(alloc: Global, way: &Way, to: &mut Bytes) -> Result<(), 
     }
 }
 
-// Writes how many rows and columns are left.
+// Appends the line `REDUCED` with how many rows and columns the smaller model has.
 fn print_reduced(alloc: Global, rows: u32, columns: u32, to: &mut Bytes) -> Result<(), AllocError>
     ensures { OnOk result (to.new ≡ to.old ++ out.way_line (ways.Reduced rows columns)) }
 {
@@ -29,7 +29,8 @@ fn print_reduced(alloc: Global, rows: u32, columns: u32, to: &mut Bytes) -> Resu
     to.extend(line.as_bytes())
 }
 
-// Writes why the solve of the smaller model gave up: an overflow, or a spent budget.
+// Writes why the model was solved as it is: an operation past 127 bits on the way by the smaller one, or its budget was
+// spent.
 fn print_why(alloc: Global, why: &Why, to: &mut Bytes) -> Result<(), AllocError>
     ensures { OnOk result (to.new ≡ to.old ++ out.why_line why.now) }
 {

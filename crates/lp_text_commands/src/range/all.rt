@@ -37,12 +37,14 @@ impl Command for RangeAll {
 
     ghost is_written = { λ _ m ranged is. (solve_end (ranged.end, is.solved.0), is.solved.1, refl) };
 
-    // Solves the model, and ranges the basis of an optimum.
+    // Solves the model cold, and prepares the ranges of its numbers at the basis of an optimum, if the model has a
+    // form.
     fn run(&self, alloc: Global, model: &Model) -> Result<Ranged, AllocError> {
         solve_ranging(alloc, model)
     }
 
-    // Writes the answer, and the ranges of all costs and right sides behind it.
+    // Appends the answer; and where ranges were prepared, a line for each cost and right side: its range, or the
+    // operation past the limit that keeps it from being known.
     fn write(
         &self,
         alloc: Global,
@@ -58,7 +60,7 @@ impl Command for RangeAll {
     }
 }
 
-// The lines of the costs, and then those of the right sides.
+// Appends the lines of the ranges of all costs, and then those of all right sides.
 fn print_all(
     alloc: Global,
     ranging: &Ranging,
@@ -73,7 +75,7 @@ fn print_all(
     print_numbers(alloc, ranging, model, Moved::RightSide, model.rows(), to)
 }
 
-// The lines of the first `count` columns or rows.
+// Appends the lines of the ranges of the first `count` columns' costs, or rows' right sides.
 fn print_numbers(
     alloc: Global,
     ranging: &Ranging,
@@ -93,7 +95,8 @@ fn print_numbers(
     Ok(())
 }
 
-// The line of one number.
+// Appends the line of the range of one number, the cost of a column or the right side of a row; or of the operation
+// past 127 bits for which there is none.
 fn print_number(
     alloc: Global,
     ranging: &Ranging,
@@ -111,7 +114,8 @@ fn print_number(
     print_range(alloc, range_of(ranging, model, moved, at), to)
 }
 
-// Appends the words for the number whose range follows, as a command line for this range alone has them.
+// Appends the words for the number whose range follows, `cost` or `rhs` and its name, as a command line for this range
+// alone has them, and a space.
 fn print_words(model: &Model, moved: Moved, at: u32, to: &mut Bytes) -> Result<(), AllocError>
     requires { at < count_by moved model.now }
     ensures { OnOk result
@@ -123,7 +127,7 @@ fn print_words(model: &Model, moved: Moved, at: u32, to: &mut Bytes) -> Result<(
     }
 }
 
-// Writes the word and the name with which the line of a number begins.
+// Writes the word and the name with which the line of a number begins, and a space.
 fn print_named(word: &[u8], name: &[u8], to: &mut Bytes) -> Result<(), AllocError>
     ensures { OnOk result (to.new ≡ to.old ++ (word.now ++ name.now ++ codes " ")) }
 {

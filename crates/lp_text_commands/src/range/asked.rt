@@ -37,7 +37,8 @@ impl<'a> Output for RangeAsked<'a> {
 
     ghost code = { λ asked. range_code asked.moved asked.name.now asked.said };
 
-    // Writes the answer and the range of the number, or why the text is refused.
+    // Appends the answer, and after an optimum the range of the number, and gives status 0. Where the text has a fault
+    // or nothing has the name, it appends that and gives status 9.
     fn print(self, alloc: Global, to: &mut Bytes) -> Result<ExitStatus, AllocError> {
         let RangeAsked { said, moved, name } = self;
         match said {
@@ -51,7 +52,8 @@ impl<'a> Output for RangeAsked<'a> {
     }
 }
 
-// Writes the range of the number, unless nothing has the name.
+// Solves the model, and appends the answer, and after an optimum the range of the named number, with status 0. Where
+// nothing has the name, it appends the line that says so, with status 9.
 fn print_model(
     alloc: Global,
     model: &Model,
@@ -78,7 +80,8 @@ fn print_model(
     }
 }
 
-/// Reads the text that the source gives, and writes what a solve of it ends with and the range of the number.
+/// Reads the text that the source gives, and writes what a solve of its model ends with, and after an optimum the range
+/// of the number of the column or row with this name; or that the text has a fault, or nothing this name.
 pub(crate) fn say_range<S: Source, K: Sink>(
     alloc: Global,
     text: Reader,

@@ -11,7 +11,7 @@ use lp_numtext::write;
 use lp_range::Range;
 use std::alloc::{AllocError, Global};
 
-/// Writes a range, or the operation that it was refused.
+/// Appends the line of a range, or of the operation past 127 bits for which there is none.
 pub(crate) fn print_range(
     alloc: Global,
     range: Result<Range, Past>,
@@ -25,7 +25,7 @@ pub(crate) fn print_range(
     }
 }
 
-// Writes the line of a range: its ends, and the slope between them.
+// Appends the line of a range: its lower end, its upper end, and the slope between them.
 #[tactic(auto, unfolding(spec_commands::specs::RangeOut::range_line))]
 fn print_line(alloc: Global, range: Range, to: &mut Bytes) -> Result<(), AllocError>
     ensures { OnOk result (to.new ≡ to.old ++ ranges.range_line range) }
@@ -40,7 +40,7 @@ fn print_line(alloc: Global, range: Range, to: &mut Bytes) -> Result<(), AllocEr
     to.extend(b"\n")
 }
 
-// An end of a range, if it has one there.
+// Appends an end of a range, or `NONE` where the range has no end on that side.
 fn print_end(alloc: Global, end: Option<Frac>, to: &mut Bytes) -> Result<(), AllocError>
     ensures { OnOk result (to.new ≡ to.old ++ ranges.end_text end) }
 {

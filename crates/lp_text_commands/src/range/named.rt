@@ -13,7 +13,7 @@ use lp_model::Model;
 use spec_program::Moved;
 use std::alloc::{AllocError, Global};
 
-/// Where the column, or the row, with this name stands.
+/// The number of the column (for a cost) or of the row (for a right side) that has this name; none if nothing has it.
 pub(crate) fn place_of(model: &Model, moved: Moved, name: &[u8]) -> Option<u32>
     ensures value { result ≡ place_by moved model.now name.now }
     ensures inside { IfSome result (λ at. at < count_by moved model.now) }
@@ -24,7 +24,7 @@ pub(crate) fn place_of(model: &Model, moved: Moved, name: &[u8]) -> Option<u32>
     }
 }
 
-/// Writes that nothing has the name.
+/// Appends the line that says that nothing has the name.
 pub(crate) fn print_unknown(alloc: Global, name: &[u8], to: &mut Bytes) -> Result<(), AllocError>
     ensures { OnOk result (to.new ≡ to.old ++ check_line (replies.Refused (refusals.Name name.now))) }
 {

@@ -20,14 +20,14 @@ use lp_solve::{End, OPENING_BUDGET, solve};
 use spec_program::Moved;
 use std::alloc::{AllocError, Global};
 
-/// What a solve ended with, and what the numbers of the model are ranged by, behind an optimum.
+/// What a solve ended with, and what the numbers of the model are ranged by, behind an optimum of a model with a form.
 #[derive(Drop)]
 pub(crate) struct Ranged {
     pub end: End,
     pub ranging: Option<Ranging>,
 }
 
-/// Solves the model, and ranges the basis of an optimum.
+/// Solves the model cold, and prepares the ranges of its numbers at the basis of an optimum, if the model has a form.
 pub(crate) fn solve_ranging(alloc: Global, model: &Model) -> Result<Ranged, AllocError>
     requires { IsUsual model.now }
     ensures { IfOk result (IsRanged model.now) }
@@ -42,7 +42,7 @@ pub(crate) fn solve_ranging(alloc: Global, model: &Model) -> Result<Ranged, Allo
     }
 }
 
-// Behind an optimum, from its basis.
+// What numbers are ranged by at the basis of an optimum; none at another end, or where the model has no form.
 fn ranging_behind(alloc: Global, model: &Model, end: &End) -> Result<Option<Ranging>, AllocError>
     requires usual { IsUsual model.now }
     requires keeps { KeepsAtEnd model.now end.now }
@@ -58,7 +58,7 @@ fn ranging_behind(alloc: Global, model: &Model, end: &End) -> Result<Option<Rang
     }
 }
 
-// From a basis of the model's form, if it has one.
+// What numbers are ranged by at a basis of the model; none where the model has no form.
 fn ranging_from(alloc: Global, model: &Model, basis: &Basis) -> Result<Option<Ranging>, AllocError>
     requires usual { IsUsual model.now }
     requires keeps { Keeps model.now basis.now }
@@ -75,7 +75,7 @@ fn ranging_from(alloc: Global, model: &Model, basis: &Basis) -> Result<Option<Ra
     }
 }
 
-/// The range of this number of the column or row `at`, or the operation that it is refused.
+/// The range of the cost of column `at`, or of the right side of row `at`. Refused where an operation is past 127 bits.
 pub(crate) fn range_of(
     ranging: &Ranging,
     model: &Model,

@@ -16,6 +16,7 @@ use lp_model::Model;
 use lp_solve::{ExactEnd, OPENING_BUDGET, solve_exactly};
 use std::alloc::{AllocError, Global};
 
+/// The command `solve --wide`.
 pub(crate) struct SolveWide;
 
 impl Command for SolveWide {
