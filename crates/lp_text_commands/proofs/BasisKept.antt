@@ -26,7 +26,7 @@ same_model : (a b : Handed) → ◌≡◌ {A = Option BasisSaid} (Some (Ok a)) (
 same_model a b e = let same : a ≡ b = cc in ap (λ (h : Handed). h.model) same
 
 module _ (limits : SizeLimits) (handed : Handed) where
-  -- the model of a file stays the same
+  -- where lines of a basis file for a model are said to give a model and a basis, that model is the one
   file_model : (m : Model) (f : Form) (lines : List (Line (List ℕ))) (s : file.State) (n : ℕ) →
       basis_said_from limits (InFile m f s n) lines ≡ Some (Ok handed) → m ≡ handed.model
   unfolding basis_step
@@ -42,12 +42,14 @@ module _ (limits : SizeLimits) (handed : Handed) where
       by (Ok (file.Done basis)) rest h = same_model (record { model = m; basis = Some basis }) handed h
       by (Err code) rest h = absurd (cc)
 
+  -- where lines behind a text give a model and a basis, the model is that of the text
   begun_model : (m : Model) (o : Result Form (FormFault ℚ)) (lines : List (Line (List ℕ))) →
       follow (begun_file m o) (λ stage. basis_said_from limits stage lines) ≡ Some (Ok handed) → m ≡ handed.model
   begun_model m (Ok f) lines h = file_model m f lines (file.start f) 0 h
   begun_model m (Err why) lines h = same_model (record { model = m; basis = None }) handed h
 
-  -- lines that say a model spell it
+  -- where lines of a text and a basis file from a state of the text on are said to give a model, the text's lines spell
+  -- it
   spelled_from : (style : Style) (lines : List (Line (List ℕ))) (s : State) (n : ℕ) →
       basis_said_from limits (InText style s n) lines ≡ Some (Ok handed) →
       text.judge limits style s (n + 1) lines ≡ text.Spelled handed.model

@@ -29,6 +29,7 @@ use Rattle.lp_text_commands.specs.Basis.{ReadingAt, step_within, reading_step, s
 
 -- ---- a line counts for one
 
+-- how many lines a stage has counted, of the text or of the basis file
 abbrev lines_in : reading.Stage → ℕ
 lines_in (reading.InText style s n) = n
 lines_in (reading.InFile m f s n) = n
@@ -63,7 +64,7 @@ stage_counts limits (reading.InFile m f s n) next line e = file_counts m f (n + 
 
 -- ---- within limits
 
--- what leads on within limits leads on
+-- what holds of each stage to which a step leads holds of the stage to which the step leads with its limits beside it
 on_within : (limits : SizeLimits) (P : reading.Stage → Type 0) (o : said.Step reading.Stage reading.BasisSaid) →
     ((s : reading.Stage) → o ≡ said.On s → P s) → (next : ReadingAt) → step_within limits o ≡ said.On next → P next.stage
 on_within limits P (said.On s) h next e = subst (λ (r : ReadingAt). P r.stage) (on_same _ next e) (h s refl)

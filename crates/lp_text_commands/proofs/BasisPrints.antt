@@ -33,7 +33,7 @@ pub whole_lines : (m : Model) (form : Result Form (FormFault ℚ)) (solved : Sol
 unfolding basis_lines
 whole_lines m form solved formed = ap (λ o. end_lines m solved ++ final_text m o solved.end) (sym formed)
 
--- nothing is written of a basis where there is no form
+-- of a model without a form, the lines of the end without a basis file are all that `basis` writes of a solve
 formless_lines : (m : Model) (why : FormFault ℚ) (solved : SolveEnd) → form_of (Some number_limit) m ≡ Err why →
     end_lines m solved ≡ basis_lines m solved
 formless_lines m why solved formless =
@@ -58,6 +58,7 @@ solve_leaves m budget start solved is h = by solved.end refl
 
 module _ (m : Model) (handed : Handed) (from : Option Start) (view : handed_of m from ≡ handed) (is : IsStartOf m from)
     (solved : SolveEnd) where
+  -- a solve from a basis of the model's form leaves a basis of that form, where it leaves one
   pub leaves_basis : (start : Start) → from ≡ Some start →
       IsSolved handed.model opening_budget handed.basis solved → LeavesBasis start.form solved.end
   leaves_basis start e h =
@@ -66,12 +67,14 @@ module _ (m : Model) (handed : Handed) (from : Option Start) (view : handed_of m
       solve_leaves m opening_budget start solved (subst (IsStartOf m) e is)
       (subst (λ (o : Option Start). IsSolved m opening_budget (option_map (λ (s : Start). s.basis) o) solved) e of_start)
 
+  -- where the lines that `basis` writes of a solve are appended, they are those of the model that was handed
   written_of : {T E : Type 0} (lines before after : List ℕ) (result : Result T E) → lines ≡ basis_lines m solved →
       OnOk result (after ≡ before ++ lines) → OnOk result (after ≡ before ++ basis_lines handed.model solved)
   written_of lines before after result e h =
       subst (λ (o : Handed). OnOk result (after ≡ before ++ basis_lines o.model solved)) view
       (on_ok_weaker result (λ written. written ∙ ap (λ bs. before ++ bs) e) h)
 
+  -- where the end and its basis file are appended, what is appended is what `basis` writes of a solve from a basis
   pub whole_written : {T E : Type 0} (start : Start) → from ≡ Some start → (before after : List ℕ)
       (result : Result T E) →
       OnOk result (after ≡ before ++ (end_lines m solved ++ final_text m (Ok start.form) solved.end)) →
@@ -81,6 +84,7 @@ module _ (m : Model) (handed : Handed) (from : Option Start) (view : handed_of m
       written_of (end_lines m solved ++ final_text m (Ok start.form) solved.end) before after result
       (whole_lines m (Ok start.form) solved at.0) h
 
+  -- where the end is appended, what is appended is what `basis` writes of a solve of a model without a form
   pub formless_written : {T E : Type 0} → from ≡ None → (before after : List ℕ) (result : Result T E) →
       OnOk result (after ≡ before ++ end_lines m solved) →
       OnOk result (after ≡ before ++ basis_lines handed.model solved)

@@ -25,6 +25,7 @@ use Rattle.lp_text_commands.specs.Stage.{stage_of, step_of, count_of, CheckSays}
 
 -- ---- a line counts for one
 
+-- how many lines a stage has counted, of the text or of the certificate
 abbrev pub lines_in : reading.Stage → ℕ
 lines_in (reading.InText style s n) = n
 lines_in (reading.InCertificate m raw n) = n

@@ -4,7 +4,7 @@
 -- `exact_leaves`: an exact end leaves a basis of the model's form, where it leaves one.
 -- `open_line`: where an exact solve ends open, `OPEN` is all that is written of it.
 -- `answer_lines`: the text of an exact answer is the lines of its value, of its origin and of its certificate.
--- `formless_based`: of a model without a form, the same is written cold and from the basis of a file.
+-- `formless_based`: of a model without a form, `basis --wide` writes the lines of the exact solve without a basis file.
 use Rattle.std.proofs.Common.{◌≡◌, ℕ, List, [], ◌∷◌, ◌++◌, codes, Option, Some, None, IfSome, Result, Ok, Err, OnOk, refl, ap, sym, ◌∙◌, append-nil, append_assoc}
 use Rattle.spec_exact.specs.Fraction.{ℚ}
 use Rattle.spec_exact.specs.Narrow.{number_limit}
@@ -75,12 +75,12 @@ answer_lines m a before t u v w after lines (Err why) is_t is_u is_v is_w are is
 
 -- ---- the whole
 
--- the whole lines of an exact end, by the model's form, are the lines with the basis
+-- the whole lines of an exact end, with the model's form, are those that `basis --wide` writes
 whole_is : (m : Model) (end : RationalEnd) → whole_lines m (form_of (Some number_limit) m) end ≡ based_lines m end
 whole_is m (Answered a) = refl
 whole_is m Open = refl
 
--- by the form that the model has
+-- with the form that the model has, the whole lines of an exact end are those that `basis --wide` writes
 whole_based : (m : Model) (form : Result Form (FormFault ℚ)) (end : RationalEnd) →
     form_of (Some number_limit) m ≡ form → whole_lines m form end ≡ based_lines m end
 whole_based m form end formed = ap (λ o. whole_lines m o end) (sym formed) ∙ whole_is m end

@@ -7,7 +7,7 @@ use Rattle.spec_model.specs.Kept.{AreEntries}
 
 -- ---- entries
 
--- rows ascend, and so the entry at a place is of no earlier row
+-- the entry at place i of a column is of row i or a later one
 no_earlier : (n : ℕ) (entries : List (ℕ × ℚ)) → AreEntries n entries → (i : ℕ) → i < length entries →
     i ≤ (slice_index_or entries i (0, 0ℚ)).0
 no_earlier n entries are zero h = omega arith
@@ -18,7 +18,7 @@ no_earlier n entries are (suc i) h =
       are.ascending i (suc i) (0, 0ℚ) (omega arith) (omega (arith, h)),
     )
 
--- there are no more than rows
+-- a column of a model of n rows has at most n entries
 pub few_entries : (n : ℕ) (entries : List (ℕ × ℚ)) → AreEntries n entries → length entries ≤ n
 few_entries n entries are =
     ⊎_elim

@@ -45,7 +45,7 @@ append_one xs x more = append_assoc xs (x ∷ []) more
 
 module _ {R : Type 0} {Say : List (Line (List ℕ)) → Option R → Type 0} (said : List (Line (List ℕ)) → Option R)
     (agrees : Agrees Say said) {before after : Option (List ℕ)} where
-  -- something is said at a line
+  -- what is said at a line, after lines read from the start of the input, is said of the bytes that were read
   hears_at : {new : LinesState} (what : R) → HearsAt Say before after at_start new what → Hears said before after what
   hears_at {new} what h = by (from_start h.reads.taken)
     where
@@ -62,7 +62,7 @@ module _ {R : Type 0} {Say : List (Line (List ℕ)) → Option R → Type 0} (sa
       all : said lines ≡ Some what
       all = ap said (sym (append-nil lines)) ∙ says []
 
-      -- the bytes of these lines
+      -- the bytes of the lines that were read are those of just these lines
       raw_is : (u : TakesLines after at_start read new lines) (ended : Bool) → Tells ended after u.raw new.ahead lines →
           lines_of u.raw ≡ lines
       raw_is u true whole = whole.all
@@ -109,7 +109,7 @@ module _ {R : Type 0} {Say : List (Line (List ℕ)) → Option R → Type 0} (sa
         soon = inl (soon u);
       }
 
-  -- and at the end
+  -- what is said at the end of the input, after lines read from its start, is said of the bytes that were read
   hears_end : (what : R) → HearsAtEnd Say before after at_start what → Hears said before after what
   hears_end what h =
       let all = stops_at_end h.until.reads in
@@ -125,7 +125,7 @@ module _ {R : Type 0} {Say : List (Line (List ℕ)) → Option R → Type 0} (sa
         soon = inr (ap said all.all ∙ agrees h.until.passed None h.until.silent);
       }
 
-  -- the input is too long
+  -- where the lines from the start of the input are followed by too much, too much was read and nothing is said of it
   hears_over : HearsUntil Say before after at_start (Ok line.Over) → HearsTooMuch said before after
   hears_over h =
       let r = h.reads in
@@ -142,7 +142,7 @@ module _ {R : Type 0} {Say : List (Line (List ℕ)) → Option R → Type 0} (sa
         soon = within_buffer u r.gives.gives;
       }
 
-  -- the source failed
+  -- where the source failed behind lines that say nothing, the bytes that were read do not decide what is said
   hears_fault : HearsUntil Say before after at_start (Err line_stops.Read) → HearsNothing said before after
   hears_fault h =
       let r = stops_with line_stops.Read h.reads in
@@ -152,7 +152,7 @@ module _ {R : Type 0} {Say : List (Line (List ℕ)) → Option R → Type 0} (sa
         undecided = ap said r.front.ended ∙ agrees h.passed None h.silent;
       }
 
-  -- memory was wanting
+  -- where memory ran out as lines were read from the start of the input, some bytes were read
   reads_part : {new : LinesState} → TakesPart before after at_start new → Reads before after
   reads_part h =
       ⊎_elim
@@ -167,27 +167,32 @@ module _ {R : Type 0} {Say : List (Line (List ℕ)) → Option R → Type 0} (sa
 
 module _ {R : Type 0} {Say : List (Line (List ℕ)) → Option R → Type 0} (said : List (Line (List ℕ)) → Option R)
     (agrees : Agrees Say said) (before after : Option (List ℕ)) (old new : LinesState) (start : old ≡ at_start) where
+  -- what was heard from lines of which none was read is what was heard from the start of an input
   from_first : (result : Result (Heard R) LineStop) → HearsNext Say before after old new result →
       HearsNext Say before after at_start new result
   from_first result h = subst (λ (st : LinesState). HearsNext Say before after st new result) start h
 
+  -- where a failure stopped the reading, what was heard is what the halt by that failure tells
   next_so : (why : LineStop) → HearsNext Say before after at_start new (Err why) →
       HearsSo said before after (Err (halt_of why))
   next_so line_stops.Read h = hears_fault said agrees h
   next_so line_stops.NoMemory h = reads_part said agrees h
 
+  -- where the lines were heard to say something, that is said of the bytes that were read
   pub says_so : (found : Heard R) (what : R) → found ≡ heard.Says what → HearsNext Say before after old new (Ok found) →
       Hears said before after what
   says_so found what is h =
       ⊎_elim (hears_at said agrees what) (hears_end said agrees what)
       (from_first (Ok (heard.Says what)) (subst (λ (f : Heard R). HearsNext Say before after old new (Ok f)) is h))
 
+  -- where the input was heard to be too long, it is longer than may be read, and nothing is said of it
   pub too_long : (found : Heard R) → found ≡ heard.Over → HearsNext Say before after old new (Ok found) →
       HearsTooMuch said before after
   too_long found is h =
       hears_over said agrees
       (from_first (Ok heard.Over) (subst (λ (f : Heard R). HearsNext Say before after old new (Ok f)) is h))
 
+  -- where a failure stopped the reading, the result that is the halt by it tells what was heard
   pub stopped : (why : LineStop) → HearsNext Say before after old new (Err why) →
       (result : Result R Halt) (got : Halt) → result ≡ Err got → got ≡ halt_of why → HearsSo said before after result
   stopped why h result got is same =

@@ -18,12 +18,13 @@ module _ {T S R : Type 0} (stage_of : T → S) (advance : S → Line (List ℕ) 
     (step_counts : (at next : S) (line : Line (List ℕ)) → advance at line ≡ said.On next →
     lines_in next ≤ lines_in at + 1)
     (end_says : (at next : S) → advance at End ≡ said.On next → ⊥) where
+  -- where a line leads to a further stage, that counts at most one line more
   counted : (at next : T) (line : Line (List ℕ)) → advance (stage_of at) line ≡ said.On (stage_of next) →
       count_of next ≤ count_of at + 1
   counted at next line e =
       let h = step_counts (stage_of at) (stage_of next) line e in omega (arith, h, count_is at, count_is next)
 
-  -- what a step leads to is what the line leads to
+  -- where the code's step from a stage is the definition's step by a line, the line leads to what the step leads to
   leads : (at : T) (line : Line (List ℕ)) (made : Step T R) → step_by stage_of made ≡ advance (stage_of at) line →
       Leads (says_by stage_of advance) count_of at line made
   leads at line (step.On next) e = record {
@@ -33,7 +34,8 @@ module _ {T S R : Type 0} (stage_of : T → S) (advance : S → Line (List ℕ) 
   }
   leads at line (step.Says what) e = λ more. ap (λ st. said.follow st (λ s. said.said_by advance s more)) (sym e)
 
-  -- from the stage that self is
+  -- where the code's step from a stage that equals `self` is the definition's step by a line, the line leads from
+  -- `self` to what the step leads to
   pub leads_from : {E : Type 0} (self at : T) (line : Line (List ℕ)) (result : Result (Step T R) E) →
       self ≡ at → IfOk result (λ made. step_by stage_of made ≡ advance (stage_of at) line) →
       IfOk result (Leads (says_by stage_of advance) count_of self line)

@@ -6,7 +6,7 @@
 -- `none_behind`: where numbers are ranged from no basis, nothing is written behind the answer.
 -- `with_range`: what `range` writes of one number is the answer, and the text of the range behind it.
 -- `with_ranges`: what `range all` writes is the answer, and the texts of all ranges behind it.
--- `line_of`: the line of a number is its name and the text of its range.
+-- `line_of`: a number's line in the list of all is `cost` or `rhs`, its name, and what is written of its range.
 -- `lines_more`: the lines of one number more are those of the ones before and its own.
 use Rattle.std.proofs.Common.{◌≡◌, ℕ, suc, ◌+◌, List, [], ◌∷◌, ◌++◌, Some, None, Result, Ok, Err, refl, ap, ◌∙◌, append-nil, arith}
 use Rattle.std.proofs.lemmas.Grind.{flat_map-append}
@@ -45,7 +45,8 @@ keeps_at_end m budget solved is = by solved.end refl
 
 -- ---- behind an answer
 
--- the basis of the model's form from which numbers are ranged, and what is written of them
+-- a form of the model and a basis of it from which numbers are ranged; the texts of one range and of all behind this
+-- end are those of the ranges from this basis
 pub record Behind (m : Model) (end : ExactSolveEnd) (start : Start) : Type 0 where
   pub form : Form
   pub basis : List Status

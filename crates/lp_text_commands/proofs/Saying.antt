@@ -51,6 +51,7 @@ use Rattle.lp_text_commands.proofs.BasisLines.{said_within}
 
 module _ {R : Type 0} (tells : List (Line (List ℕ)) → Option R) (Out : R → List ℕ → Type 0) (code_of : R → ℕ)
     (before after taken : Option (List ℕ)) where
+  -- where a reading halts and nothing is written, that is what the result of the command by this halt tells
   halts_so : (halt : Halt) → HearsSo tells before after (Err halt) →
       SaysSo tells Out code_of (streams before after taken taken) (Err halt)
   halts_so halts.Read h = (h, Appends-nil taken)
@@ -59,7 +60,7 @@ module _ {R : Type 0} (tells : List (Line (List ℕ)) → Option R) (Out : R →
   halts_so halts.Write h = absurd h
   halts_so halts.Cut h = absurd h
 
-  -- where nothing is said, nothing is written
+  -- where a reading halts and nothing is written, the command's result that is this halt tells so
   pub says_nothing : (halt : Halt) → HearsSo tells before after (Err halt) →
       (result : Result ExitStatus Halt) (got : Halt) → result ≡ Err got → got ≡ halt →
       SaysSo tells Out code_of (streams before after taken taken) result
@@ -67,7 +68,8 @@ module _ {R : Type 0} (tells : List (Line (List ℕ)) → Option R) (Out : R →
       subst (λ (r : Result ExitStatus Halt). SaysSo tells Out code_of (streams before after taken taken) r)
       (sym (is ∙ ap Err same)) (halts_so halt h)
 
-  -- something is said, and that is written
+  -- where something is said of the input, and what was written is right by the result, the command reads and writes
+  -- what the result tells
   pub says : (what : R) → Hears tells before after what → (now : Option (List ℕ)) (result : Result ExitStatus Halt) →
       WritesSo (Out what) (code_of what) taken now result →
       SaysSo tells Out code_of (streams before after taken now) result
@@ -132,6 +134,7 @@ says_out {G} {F} tells Out line code_of s result refused =
 -- ---- what is sent of a text that was printed
 
 module _ (printed : Result ExitStatus AllocError) (text : List ℕ) (taken : Option (List ℕ)) where
+  -- where memory ran out and nothing was written, that is what the result for lack of memory tells
   pub sends_none : (result : Result ExitStatus Halt) (got : Halt) → result ≡ Err got → got ≡ halts.NoMemory →
       SendsSo printed text taken taken result
   sends_none result got is same =
@@ -140,9 +143,11 @@ module _ (printed : Result ExitStatus AllocError) (text : List ℕ) (taken : Opt
 
   module _ (status : ExitStatus) (is_printed : printed ≡ Ok status) (piece : List ℕ) (whole : piece ≡ text)
       (now : Option (List ℕ)) where
+    -- where the whole text was written, that is what its status tells
     pub sends : Appends taken now piece → SendsSo printed text taken now (Ok status)
     sends sent = (is_printed, subst (Appends taken now) whole sent)
 
+    -- where a beginning of the text was written, that is what the result of a failed write tells
     pub sends_in_part : Takes taken now piece → (result : Result ExitStatus Halt) (got : Halt) → result ≡ Err got →
         got ≡ halts.Write → SendsSo printed text taken now result
     sends_in_part sent result got is same =
@@ -151,16 +156,19 @@ module _ (printed : Result ExitStatus AllocError) (text : List ℕ) (taken : Opt
 
 module _ (Out : List ℕ → Type 0) (code : ℕ) (none text : List ℕ) (is_none : none ≡ []) (taken now : Option (List ℕ))
   where
+    -- a text that was printed onto an empty one is the output itself
     whole_output : (printed : Prints Out none text) → text ≡ printed.output
     whole_output printed = printed.behind ∙ ap (λ bs. bs ++ printed.output) is_none
 
     module _ (printed : Result ExitStatus AllocError) (prints : OnOk printed (Prints Out none text))
         (has_code : IfOk printed (λ status. status.code ≡ code)) where
+      -- where printing gave a status, the text has an output that is allowed
       printed_so : (status : ExitStatus) → printed ≡ Ok status → Prints Out none text
       printed_so status is =
           subst (λ (r : Result ExitStatus AllocError). OnOk r (Prints Out none text)) is prints
 
-      -- what was sent is what may be written
+      -- where what was written of a printed text is as the result tells, it is an allowed output, in whole or in part,
+      -- as the result tells
       pub writes_sent : (result : Result ExitStatus Halt) → SendsSo printed text taken now result →
           WritesSo Out code taken now result
       writes_sent (Ok status) sent =
@@ -183,6 +191,7 @@ module _ (Out : List ℕ → Type 0) (code : ℕ) (none text : List ℕ) (is_non
 
 -- ---- from the start of a text on
 
+-- a command on a text, as the code has it
 abbrev Asked : Type 0
 Asked = TextCommand (Bor (List ℕ))
 
@@ -193,12 +202,15 @@ reads_as command is style s result e h =
     subst (λ (asked : Asked). ReadsText (spelled_text asked) style s result) (sym e) h
 
 module _ (style : Style) (reader : TextRead) (begun : reader ≡ record { style = style; state = start; lines = 0 }) where
+  -- a reader of a text that has read nothing says of lines what the text's definition says
   text_agrees : Agrees (TextSays reader) (text_said style)
   text_agrees lines answer h = subst (λ (r : TextRead). TextSays r lines answer) begun h
 
+  -- a reader of `check` that has read nothing says of lines what `check` says
   check_agrees : Agrees (CheckSays (stage.Text reader)) (said style)
   check_agrees lines answer h = subst (λ (r : TextRead). CheckSays (stage.Text r) lines answer) begun h
 
+  -- where the code's reading and writing are right for `check`, the command reads and writes what its definition has
   pub check_reads : (command : Asked) → command ≡ Check → (s : Streams) (result : Result ExitStatus Halt) →
       ((said : List (Line (List ℕ)) → Option ExactReply) → Agrees (CheckSays (stage.Text reader)) said →
       SaysSo said CheckOut check_code s result) →
@@ -206,9 +218,12 @@ module _ (style : Style) (reader : TextRead) (begun : reader ≡ record { style 
   check_reads command asked s result h =
       reads_as command Check style s result asked (h (said style) check_agrees)
 
+  -- a reader of `check --wide` that has read nothing says of lines what `check --wide` says
   wide_agrees : Agrees (WideSays (wide_stage.Text reader)) (wide_said style)
   wide_agrees lines answer h = subst (λ (r : TextRead). WideSays (wide_stage.Text r) lines answer) begun h
 
+  -- where the code's reading and writing are right for `check --wide`, the command reads and writes what its definition
+  -- has
   pub wide_reads : (command : Asked) → command ≡ CheckWide → (s : Streams) (result : Result ExitStatus Halt) →
       ((said : List (Line (List ℕ)) → Option ExactReply) → Agrees (WideSays (wide_stage.Text reader)) said →
       SaysSo said WideCheckOut check_code s result) →
@@ -216,9 +231,12 @@ module _ (style : Style) (reader : TextRead) (begun : reader ≡ record { style 
   wide_reads command asked s result h =
       reads_as command CheckWide style s result asked (h (wide_said style) wide_agrees)
 
+  -- a reader of a large model's text that has read nothing says of lines what the text's definition says
   large_agrees : Agrees (LargeSays reader) (text_said_within large_limits style)
   large_agrees lines answer h = subst (λ (r : TextRead). LargeSays r lines answer) begun h
 
+  -- where the code's reading and writing are right for `solve --wide`, the command reads and writes what its definition
+  -- has
   pub wide_solve_reads : (command : Asked) → command ≡ SolveWide → (s : Streams) (result : Result ExitStatus Halt) →
       ((said : List (Line (List ℕ)) → Option TextSaid) → Agrees (LargeSays reader) said →
       SaysSo said SolveWideOut solve_code s result) →
@@ -226,6 +244,8 @@ module _ (style : Style) (reader : TextRead) (begun : reader ≡ record { style 
   wide_solve_reads command asked s result h =
       reads_as command SolveWide style s result asked (h (text_said_within large_limits style) large_agrees)
 
+  -- where the code's reading and writing are right for `range` of one number, the command reads and writes what its
+  -- definition has
   pub range_reads : (command : Asked) (moved : Moved) (name : Bor (List ℕ)) → command ≡ Range moved name →
       (s : Streams) (result : Result ExitStatus Halt) →
       ((said : List (Line (List ℕ)) → Option TextSaid) → Agrees (TextSays reader) said →
@@ -236,6 +256,8 @@ module _ (style : Style) (reader : TextRead) (begun : reader ≡ record { style 
 
   -- a text whose model is given to a command
   module _ (command : Asked) (s : Streams) (result : Result ExitStatus Halt) where
+    -- where a command writes an allowed output of a text's model or the line of its fault, it writes what its
+    -- definition allows of what the text says
     of_text : (Out : TextSaid → List ℕ → Type 0) →
         ((fault : MpsFault) (written : List ℕ) → written ≡ misspelled_line fault → Out (Err fault) written) →
         SaysSo (text_said reader.style) (TextOut (λ m. Out (Ok m))) solve_code s result →
@@ -244,22 +266,30 @@ module _ (style : Style) (reader : TextRead) (begun : reader ≡ record { style 
         says_out (text_said style) Out misspelled_line solve_code s result refused
         (subst (λ (r : TextRead). SaysSo (text_said r.style) (TextOut (λ m. Out (Ok m))) solve_code s result) begun h)
 
+    -- where `solve` writes an allowed output of the model or the line of the text's fault, it reads and writes what its
+    -- definition has
     pub solve_reads : command ≡ Solve →
         SaysSo (text_said reader.style) (TextOut (λ m. SolveOut (Ok m))) solve_code s result →
         ReadsText (spelled_text command) style s result
     solve_reads asked h = reads_as command Solve style s result asked (of_text SolveOut (λ fault written is. is) h)
 
+    -- where `presolve` writes an allowed output of the model or the line of the text's fault, it reads and writes what
+    -- its definition has
     pub presolve_reads : command ≡ Presolve →
         SaysSo (text_said reader.style) (TextOut (λ m. PresolveOut (Ok m))) solve_code s result →
         ReadsText (spelled_text command) style s result
     presolve_reads asked h =
         reads_as command Presolve style s result asked (of_text PresolveOut (λ fault written is. is) h)
 
+    -- where `iis` writes an allowed output of the model or the line of the text's fault, it reads and writes what its
+    -- definition has
     pub iis_reads : command ≡ Iis →
         SaysSo (text_said reader.style) (TextOut (λ m. IisOut (Ok m))) solve_code s result →
         ReadsText (spelled_text command) style s result
     iis_reads asked h = reads_as command Iis style s result asked (of_text IisOut (λ fault written is. is) h)
 
+    -- where `range all` writes an allowed output of the model or the line of the text's fault, it reads and writes what
+    -- its definition has
     pub ranges_reads : command ≡ RangeAll →
         SaysSo (text_said reader.style) (TextOut (λ m. RangesOut (Ok m))) solve_code s result →
         ReadsText (spelled_text command) style s result
@@ -270,6 +300,7 @@ module _ (style : Style) (reader : TextRead) (begun : reader ≡ record { style 
 
 module _ (limits : SizeLimits) (style : Style) (reader : ReadWithin)
     (begun : reader ≡ record { limits = limits; text = record { style = style; state = start; lines = 0 } }) where
+  -- a reader of `basis` that has read nothing says of lines what `basis` says within its limits
   pub basis_agrees : Agrees (BasisSays (basis_stage.Text reader)) (basis_said limits style)
   basis_agrees lines answer h =
       sym (said_within limits (InText style start 0) lines)

@@ -5,7 +5,7 @@
 -- `one_on`: a text that is appended to a first one stays behind it when more is appended.
 -- `item_holds`: what holds of all items holds of the one at a place.
 -- `sides_more`: the lines of one side more are those of the ones before and its own.
--- `parts_more`: the lines of one part of a point more are those of the ones before and its own.
+-- `parts_more`: the lines of the first j + 1 parts of a point are those of the first j parts, and then those of part j.
 -- `part_on`: appending the lines of one part more to those of the first j parts gives those of the first j + 1.
 -- `no_part`: a part that is 0 has no lines.
 -- `some_part`: a part that is not 0 has one line, which is its text ended.
@@ -117,7 +117,7 @@ pub some_part : (name : Name) (v : ℚ) (is_zero : Bool) → is_zero ≡ eq_ℚ 
 some_part name v is_zero e h =
     sym (ap (λ b. ended_lines (cond b [] (part_text X name v ∷ []))) (sym e ∙ h) ∙ ended_one (part_text X name v))
 
--- the lines of a point behind its number
+-- the lines of a point: the one with its number, and one for each of its values that is not 0
 abbrev pub numbered : Model → ℕ → List ℚ → List (List ℕ)
 numbered m number z = (codes "POINT " ++ decimal number) ∷ column_lines m X z
 
@@ -148,9 +148,11 @@ points_more m points at z e =
 
 -- ---- the whole
 
+-- the two lines above the sides of a set: `INFEASIBLE`, and `IIS` with the number of sides
 abbrev heading : List Side → List (List ℕ)
 heading sides = codes "INFEASIBLE" ∷ (codes "IIS " ++ decimal (length sides)) ∷ []
 
+-- the text of the two lines above the sides of a set: `INFEASIBLE`, and `IIS` with the number of sides
 abbrev pub heading_text : List Side → List ℕ
 heading_text sides = (codes "INFEASIBLE\nIIS " ++ decimal (length sides)) ++ 10 ∷ []
 
@@ -172,7 +174,7 @@ five_on first t u v w last a b c d e is_t is_u is_v is_w is_last =
     ∙ append_assoc (first ++ a) ((b ++ c) ++ d) e
     ∙ append_assoc first a (((b ++ c) ++ d) ++ e)
 
--- three lists of lines, and a line
+-- the bytes of three lists of lines and a line are those of the lists, one after the other, and of the line
 ended_three : (xs ys zs : List (List ℕ)) (last : List ℕ) →
     ended_lines (((xs ++ ys) ++ zs) ++ last ∷ [])
     ≡ ((ended_lines xs ++ ended_lines ys) ++ ended_lines zs) ++ (last ++ 10 ∷ [])
