@@ -30,6 +30,7 @@ use Rattle.lp_top.specs.Top.{Tells, Does}
 -- ---- a script
 
 module _ {workers places : ℕ} {s : Streams} where
+  -- where a script's run was halted, the status of the halt tells so
   told_stop : (moves : Moves workers places s) (stop : Halt) → EndsSo moves (Err stop) → Tells (code_behind stop) moves
   told_stop moves halts.Read ends =
       record {
@@ -69,6 +70,7 @@ module _ {workers places : ℕ} {s : Streams} where
         over = λ e. ends;
       }
 
+  -- where a script was read and run to its end, status 0 tells so
   pub run_done : ((moves : Moves workers places s) × EndsSo moves (Ok tt)) →
       (moves : Moves workers places s) × Tells 0 moves
   run_done m = (
@@ -82,6 +84,7 @@ module _ {workers places : ℕ} {s : Streams} where
     },
   )
 
+  -- where a script's run was halted, the status that is the halt's tells so
   pub run_stopped : (stop : Halt) (code : ℕ) → code ≡ code_behind stop →
       ((moves : Moves workers places s) × EndsSo moves (Err stop)) →
       (moves : Moves workers places s) × Tells code moves
@@ -96,6 +99,7 @@ not_done n a b (inr e) = b e
 
 module _ {R : Type 0} (said : List (Line (List ℕ)) → Option R) (Out : R → List ℕ → Type 0) (code_of : R → ℕ)
     (s : Streams) where
+  -- where a command on a text was halted, the status of the halt tells so
   stop_told : (halt : Halt) → SaysSo said Out code_of s (Err halt) → TellsOf said Out code_of s (code_behind halt)
   stop_told halts.Read h = record {
     done = λ e. absurd (not_done 3 (λ z. omega (arith, z)) (λ z. omega (arith, z)) e);
@@ -127,6 +131,7 @@ module _ {R : Type 0} (said : List (Line (List ℕ)) → Option R) (Out : R → 
     over = λ e. h;
   }
 
+  -- where a command on a text wrote a whole output with status 0 or 9, the status tells so
   done_told : (code : ℕ) → Says said Out code_of s code → (code ≡ 0) ⊎ (code ≡ 9) → TellsOf said Out code_of s code
   done_told code h either = record {
     done = λ e. h;
@@ -196,10 +201,12 @@ text_halted command style s halt code e h =
 -- ---- the command that makes a model
 
 module _ {Out : List ℕ → Type 0} {s : Streams} (reads : Consumes s.left_before s.left_after []) where
+  -- where `gen` read nothing and wrote a whole output, status 0 tells so
   pub generated : WritesAll Out s.taken_before s.taken_after → TellsOfWriting Out s 0
   generated all =
       record { reads = reads; done = λ e. all; sink = λ e. absurd (omega arith); memory = λ e. absurd (omega arith) }
 
+  -- where `gen` read nothing and was halted, the status of the halt tells so
   writing_stopped : (halt : Halt) → Writes Out s.taken_before s.taken_after (Err halt) →
       TellsOfWriting Out s (code_behind halt)
   writing_stopped halts.Read h = absurd h
@@ -210,6 +217,7 @@ module _ {Out : List ℕ → Type 0} {s : Streams} (reads : Consumes s.left_befo
   writing_stopped halts.Cut h = absurd h
   writing_stopped halts.Over h = absurd h
 
+  -- where `gen` read nothing and was halted, the status that is the halt's tells so
   pub not_generated : (halt : Halt) (code : ℕ) → code ≡ code_behind halt →
       Writes Out s.taken_before s.taken_after (Err halt) → TellsOfWriting Out s code
   not_generated halt code e h = subst (λ n. TellsOfWriting Out s n) (sym e) (writing_stopped halt h)

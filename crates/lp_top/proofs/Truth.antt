@@ -72,9 +72,11 @@ run_true workers places s moves =
 -- ---- a text
 
 module _ (command : ExactTextCommand) (style : Style) (s : Streams) where
+  -- the output of a command on a text is true of the model that the bytes read spell
   abbrev IsTrue : Option (List ℕ) → List ℕ → List ℕ → Type 0
   IsTrue after read output = IsTrueOf (Read command style) after read output
 
+  -- where the command wrote a whole output of what its input says, what it wrote is true
   says_true : (code : ℕ) → Says (said_of command style) (MayWrite command) (code_of command) s code → Tells IsTrue s
   says_true code h = record {
     read = h.hears.read;
@@ -86,6 +88,8 @@ module _ (command : ExactTextCommand) (style : Style) (s : Streams) where
     is_true = said_true command style s.left_after h.hears.read h.output h.what h.hears.is_said h.is_output;
   }
 
+  -- where the command wrote a beginning of an output of what its input says, what it wrote is the beginning of a true
+  -- output
   part_true : SaysInPart (said_of command style) (MayWrite command) s → Tells IsTrue s
   part_true h = record {
     read = h.hears.read;
@@ -97,6 +101,7 @@ module _ (command : ExactTextCommand) (style : Style) (s : Streams) where
     is_true = said_true command style s.left_after h.hears.read h.output h.what h.hears.is_said h.is_output;
   }
 
+  -- where the command wrote nothing, what it wrote is true
   nothing_true : (read : List ℕ) → Consumes s.left_before s.left_after read → WritesNothing s → Tells IsTrue s
   nothing_true read consumed none = record {
     read = read;
@@ -108,6 +113,7 @@ module _ (command : ExactTextCommand) (style : Style) (s : Streams) where
     is_true = none_true command (IsModelOf command style s.left_after read);
   }
 
+  -- whatever the status of a command on a text is, what it wrote is the beginning of a true output
   text_true : (code : ℕ) → TellsOfText command style s code → IsStatus (Some (Read command style)) code → Tells IsTrue s
   text_true code h (inl e) = says_true code (h.done (inl e))
   text_true code h (inr (inl e)) = let f = h.fault e in nothing_true f.0.read f.0.consumed f.1

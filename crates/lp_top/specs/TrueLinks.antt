@@ -10,7 +10,7 @@ use Rattle.lp_base.specs.LinkState.{LinkState}
 use Rattle.lp_base.specs.Listening.{Given, Returned, Grows, ListenerState}
 use Rattle.lp_serve.specs.Serving.{no_listener}
 
--- a link, as it was given and as it came back
+-- a link that a listener lent: as it was given, and as it came back
 pub record Lent : Type 0 where
   pub given : LinkState
   pub back : LinkState
@@ -26,7 +26,8 @@ pub record IsTrueListener (old new : ListenerState) : Type 0 where
   pub log : Grows old.log new.log (flat_map (λ x. Given x.given ∷ Returned x.back ∷ []) links)
   pub are_true : All (λ x. Tells (AreTrueReplies Alone) (lent_streams x)) links
 
--- no other command uses a listener
+-- for a server, what was written to the links of each listener is true;
+-- any other command leaves the listeners as they were
 abbrev pub AreTrueListeners : Option ExactLine → List ListenerState → List ListenerState → Type 0
 AreTrueListeners (Some (Serve workers each places)) olds news =
     (i : ℕ) → i < length olds →

@@ -102,7 +102,7 @@ where
     }
 }
 
-// Carries out a command line, and gives the exit status.
+// Carries out a command line over the source, the sink and the listeners, and gives the exit status.
 fn obey<R: Threads + Wait + Sync, S: Source, K: Sink, N: Listen + Send + Drop, G: Gate + Sync>(
     rt: &R,
     alloc: Global,
