@@ -5,10 +5,12 @@ use Rattle.spec_program.specs.declared.command_line.CommandLine.TheVariants.{Run
 use Rattle.spec_program.proofs.Addresses.{has_address}
 use Rattle.lp_top.specs.Top.{HasListeners}
 
+-- how many workers a server has; 0 where there is no server
 abbrev pub workers_at : Option Address → ℕ
 workers_at None = 0
 workers_at (Some server) = server.workers
 
+-- a command line wants as many listeners as its server has workers, and none where it starts no server
 pub are-wanted : (words : List Word) (server : Option Address) → server ≡ address_of words →
     HasListeners (command_line_of words) (workers_at server)
 are-wanted words server is = by (command_line_of words) refl

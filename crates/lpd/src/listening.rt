@@ -9,8 +9,8 @@ use lp_top::plan;
 use std::alloc::{AllocError, Global};
 use std::net::TcpListener;
 
-/// The socket of a server, at this address. Where it is bound, that is said on standard error, with the address as it
-/// was bound; a fault of that write changes nothing.
+/// The socket of a server, bound at this address, or why it cannot be. That it is bound is said on standard error, with
+/// the address as the system tells it; where that fails, nothing is said.
 pub fn listen<'a>(rt: &HostRuntime, address: &'a String) -> Result<TcpListener, Unbound<'a>> {
     let socket = match TcpListener::bind(rt, address) {
         Ok(socket) => socket,
@@ -32,7 +32,7 @@ pub fn wanted(words: &[String]) -> u32
     }
 }
 
-/// A list of `count` listeners of one socket, which number their workers from 1 on.
+/// A list of `count` listeners of one socket, which number their workers from 1 on. Memory may run out.
 pub fn nets_at<'a>(
     rt: &'a HostRuntime,
     alloc: Global,

@@ -24,7 +24,8 @@ use std::process::ExitCode;
 use std::{env, io};
 use told::{Ending, tell, tell_reading};
 
-// Reads the words of the command line, runs the command on standard input and output, and ends with its status.
+// Reads the words of the command line, writes the notice that they ask for, or else runs the command on standard input
+// and output, and ends with the status.
 fn main(rt: HostRuntime) -> ExitCode {
     let alloc = rt.alloc();
     let words = match words_of(&rt, alloc) {
@@ -72,13 +73,14 @@ fn main(rt: HostRuntime) -> ExitCode {
     end(&rt, alloc, ending)
 }
 
-// Says what happened, and gives the status.
+// Says on standard error what happened, if not all was done, and gives the status.
 fn end(rt: &HostRuntime, alloc: Global, ending: Ending<'_>) -> ExitCode {
     let _ = tell(rt, alloc, ending);
     ExitCode::from(ending.status.code)
 }
 
-// The words of the command line, without the program's own name. Words that are no text fail all together.
+// The words of the command line, without the program's own name. Words that are no text fail all together. Memory
+// may run out.
 fn words_of(rt: &HostRuntime, alloc: Global) -> io::Result<Vec<String>> {
     let mut words = Vec::new(alloc);
     for word in env::args(rt)?.skip(1) {
@@ -87,7 +89,7 @@ fn words_of(rt: &HostRuntime, alloc: Global) -> io::Result<Vec<String>> {
     Ok(words)
 }
 
-// The status where the words could not be read.
+// The status where the words of the command line could not be read: 5 for lack of memory, else 2.
 fn status_of(error: &io::Error) -> ExitStatus {
     match error.kind() {
         ErrorKind::OutOfMemory => ExitStatus::NO_MEMORY,

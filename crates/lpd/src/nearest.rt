@@ -2,8 +2,9 @@
 use std::alloc::{AllocError, Global};
 use strsim::osa_distance;
 
-/// The name that is nearest to a word, if one is near: a third of the word's characters, or one, may be other ones,
-/// missing or exchanged. Dashes before both do not count, nor does the case.
+/// The name that is nearest to a word, the first of several, if one is near. A third of the word's bytes, or one, may
+/// be other ones, missing, too many, or exchanged with the next. Dashes before both do not count, nor does the case of
+/// ASCII letters. Memory may run out.
 pub fn nearest(
     alloc: Global,
     word: &str,
@@ -23,7 +24,7 @@ pub fn nearest(
     Ok(found)
 }
 
-// The word in lower case, without the dashes before it.
+// The word in lower case, without the dashes before it. Memory may run out.
 fn bare(alloc: Global, word: &str) -> Result<String, AllocError> {
     word.trim_start_matches('-').to_ascii_lowercase(alloc)
 }

@@ -12,7 +12,7 @@ use std::alloc::{AllocError, Global};
 // The version is that of the file VERSION at the top of the repository.
 const VERSION: &str = "lpd 0.1.0\n";
 
-// The usage, or the line of the version.
+// The usage, or the line of the version. Memory may run out.
 fn text_of(alloc: Global, notice: Notice) -> Result<String, AllocError>
     ensures { IfOk result (λ text. IsTextOf notice (string_bytes text)) }
 {
@@ -22,7 +22,8 @@ fn text_of(alloc: Global, notice: Notice) -> Result<String, AllocError>
     }
 }
 
-/// Writes the usage, as clap lays it out, or the line of the version.
+/// Writes the usage, as clap lays it out, or the line of the version, and gives status 0. A failed write is status 4,
+/// and lack of memory 5.
 pub fn show<K: Sink>(alloc: Global, notice: Notice, out: &mut K) -> ExitStatus
     ensures codes { (result.code ≡ 0) ⊎ (result.code ≡ 4) ⊎ (result.code ≡ 5) }
     ensures all { result.code ≡ 0 → ShowsAll notice (K.taken out.old) (K.taken out.new) }

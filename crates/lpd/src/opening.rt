@@ -3,10 +3,10 @@ ghost use Rattle.std.specs.Prelude.{◌≤◌};
 
 use lp_base::{Failed, Sink};
 
-// A refusal by a name of a model has 80 bytes at most, and a line feed.
+// How many of the first bytes are kept: a refusal by a name of a model has 80 bytes at most, and a line feed.
 const KEPT: usize = 96;
 
-// The first bytes that were written.
+// The first bytes that were written, 96 at most.
 #[derive(Drop)]
 struct Start {
     bytes: [u8; KEPT],
@@ -24,7 +24,7 @@ impl Start {
     }
 }
 
-/// A sink that keeps the first line of what it takes.
+/// A sink that keeps the first 96 bytes of what it takes, to tell the first line.
 #[derive(Drop)]
 pub struct Opening<K> {
     inner: K,
@@ -41,7 +41,7 @@ impl<K> Opening<K> {
         Opening { inner, start }
     }
 
-    /// The line, if it is text and has fewer than 96 bytes.
+    /// The first line of the output, if the first 96 bytes of the output are text and have its line feed.
     pub fn first_line(&self) -> Option<&str> {
         let start = &self.start;
         let text = str::from_utf8(&start.bytes[..start.count]).ok()?;

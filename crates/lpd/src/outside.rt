@@ -27,7 +27,7 @@ impl<R: Read> Source for Counted<R> {
 
     ghost beside_reads = { λ _. no_sink };
 
-    // Reads from the reader, and counts a fault.
+    // Reads from the reader, and counts a fault, if there is one.
     fn read(&mut self, buf: &mut [u8]) -> Result<usize, Failed> {
         let read = read_again(&mut self.inner, buf);
         counted(read, &mut self.faults)
@@ -41,7 +41,7 @@ impl<W: Write> Sink for Counted<W> {
 
     ghost beside_writes = { λ _. no_source };
 
-    // Writes to the writer, and counts a fault.
+    // Writes to the writer, and counts a fault, if there is one.
     fn write(&mut self, piece: &[u8]) -> Result<usize, Failed> {
         let written = write_again(&mut self.inner, piece);
         counted(written, &mut self.faults)

@@ -7,7 +7,7 @@ use std::io;
 // A word of a reply, and what it says.
 type Meaning = (&'static str, &'static str);
 
-// The faults of a model's text.
+// The faults of a model's text, but for `M16`: what that says depends on the command.
 const MODEL_FAULTS: [Meaning; 18] = [
     (
         "M1",
@@ -117,7 +117,7 @@ pub fn tell_refused(rt: &HostRuntime, words: &[String], reply: Option<&str>) -> 
     }
 }
 
-// A reply is ERR, a number, a word, and what is refused.
+// What was refused, and why, by the reply: `ERR`, a number, a word, and what is refused. None where more is not known.
 fn refusal_of<'a>(words: &[String], reply: Option<&'a str>) -> Option<Refusal<'a>> {
     let Some(CommandLine::Read(command, style)) = command_line_of(words) else {
         return None;
@@ -155,7 +155,7 @@ fn repeated(name: &str) -> Refusal<'_> {
     }
 }
 
-// The refusal of a line of the model, from its number and the word of its fault.
+// The refusal of a line of the model, from its number and the word of its fault; none for another word.
 fn of_model<'a>(command: TextCommand<&[u8]>, style: Style, what: &'a str) -> Option<Refusal<'a>> {
     let (number, fault) = what.split_once(' ')?;
     let (why, hint) = match (fault, style) {
@@ -178,7 +178,7 @@ fn of_model<'a>(command: TextCommand<&[u8]>, style: Style, what: &'a str) -> Opt
     })
 }
 
-// The sizes that a line of the command may not pass, and which command allows greater ones.
+// What of a model is more than the command takes, and, if there is one, which command takes larger models.
 fn limits(command: TextCommand<&[u8]>) -> (&'static str, &'static str) {
     let narrow = "more than 256 rows, 512 columns or 16,384 bytes of a line";
     match command {
@@ -192,7 +192,7 @@ fn limits(command: TextCommand<&[u8]>) -> (&'static str, &'static str) {
     }
 }
 
-// The refusal of a line of the basis file, from its number and the word of its fault.
+// The refusal of a line of the basis file, from its number and the word of its fault; none for another word.
 fn of_basis(what: &str) -> Option<Refusal<'_>> {
     let (number, fault) = what.split_once(' ')?;
     Some(Refusal::Line {
@@ -203,7 +203,7 @@ fn of_basis(what: &str) -> Option<Refusal<'_>> {
     })
 }
 
-// The first line of what `solve` writes is no line of the certificate.
+// The refusal of a line of the certificate, from its number. The first line of what `solve` writes is no such line.
 fn of_certificate<'a>(command: TextCommand<&[u8]>, number: &'a str) -> Refusal<'a> {
     let (why, hint) = match (number, command) {
         ("1", _) => (
@@ -235,7 +235,7 @@ fn of_certificate<'a>(command: TextCommand<&[u8]>, number: &'a str) -> Refusal<'
     }
 }
 
-// What the word of a fault says.
+// What the word of a fault says; none if the list does not have the word.
 fn meaning(faults: &[Meaning], fault: &str) -> Option<&'static str> {
     for (word, why) in faults {
         if *word == fault {

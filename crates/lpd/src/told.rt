@@ -48,7 +48,8 @@ pub fn tell(rt: &HostRuntime, alloc: Global, ending: Ending<'_>) -> io::Result<(
     }
 }
 
-// What standard error says of an exit status of `lpd`; nothing of a status of which more is known than its number.
+// What standard error says of an exit status of which no more is known than its number; none where the status is 0 or
+// 9.
 fn what_happened(status: ExitStatus) -> Option<&'static str> {
     match status {
         ExitStatus::BAD_COMMAND_LINE => Some("bad command line\nlpd: a word is not UTF-8"),
@@ -62,7 +63,8 @@ fn what_happened(status: ExitStatus) -> Option<&'static str> {
     }
 }
 
-/// Says on standard error what a command reads, where it reads a terminal. A fault of that write changes nothing.
+/// Says on standard error what a command reads, where its words have no fault and standard input is a terminal. A fault
+/// of that write changes nothing.
 pub fn tell_reading(rt: &HostRuntime, words: &[String]) {
     if !rt.stdin().is_terminal() || word_fault(words).is_some() {
         return;

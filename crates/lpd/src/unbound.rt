@@ -22,7 +22,7 @@ pub fn tell_unbound(rt: &HostRuntime, unbound: &Unbound<'_>) -> io::Result<()> {
     }
 }
 
-// Why a server cannot listen, in words of this program, where it has some.
+// Why a server cannot listen, by the kind of the error; none where this program has no words for it.
 fn why(kind: ErrorKind) -> Option<&'static str> {
     match kind {
         ErrorKind::AddrInUse => Some("it is in use"),

@@ -81,7 +81,7 @@ const STATUSES: &str = "Statuses:
 
 The manual is the page lpd(1): `man lpd`, or in the repository `man -l docs/lpd.1`.";
 
-/// The commands and their options, the statuses, and where the manual is.
+/// The commands and their options, the statuses, and where the manual is. Memory may run out.
 pub fn usage(alloc: Global) -> Result<String, AllocError> {
     let mut program = Command::new(alloc, "lpd")
         .about("Solve linear programs exactly, and check certificates")

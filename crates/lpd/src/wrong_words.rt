@@ -50,7 +50,7 @@ fn head_of(command: &'static str) -> Head {
     }
 }
 
-// The command with this name, where there is one.
+// The name of the command or notice, and the words behind it in the usage; none where there is neither.
 fn command_of(word: &str) -> Option<Head> {
     for (command, _) in COMMANDS {
         let head = head_of(command);
@@ -66,7 +66,7 @@ fn command_of(word: &str) -> Option<Head> {
     None
 }
 
-// The fault, where a notice counts as a command that takes no further word.
+// The fault of the command line, where a notice counts as a command that takes no further word.
 fn fault_behind<'a>(
     command: Option<Head>,
     words: &'a [String],
@@ -87,7 +87,7 @@ fn is_of(command: &str, heading: &str) -> bool {
         .any(|word| word.trim_end_matches(',') == command)
 }
 
-// The usage line of a command: its name, the words that are no options, and its options.
+// The usage line of a command: its name, the words that are no options, and its options. Memory may run out.
 fn line_of(alloc: Global, command: Head) -> Result<String, AllocError> {
     let mut line = format!(in alloc; "lpd {}", command.name)?;
     if command.plain != "" {
@@ -104,7 +104,7 @@ fn line_of(alloc: Global, command: Head) -> Result<String, AllocError> {
 }
 
 // An option as a line of the usage shows it, behind a blank: ` [--NAME VALUE]`, or ` [--NAME]` for a switch, whose
-// value is empty.
+// value is empty. Memory may run out.
 fn option_of(alloc: Global, name: &str, value: &str) -> Result<String, AllocError> {
     if value == "" {
         return format!(in alloc; " [--{name}]");
@@ -112,7 +112,8 @@ fn option_of(alloc: Global, name: &str, value: &str) -> Result<String, AllocErro
     format!(in alloc; " [--{name} {value}]")
 }
 
-// What the fault of a command line is, and which word may have been meant.
+// The sentence that says what the fault of a command line is, and behind it, where a word is near, whether that was
+// meant. Memory may run out.
 fn reason_and_hint(
     alloc: Global,
     command: Option<Head>,
@@ -124,7 +125,7 @@ fn reason_and_hint(
     Ok(said)
 }
 
-// What the fault of a word of the command line is.
+// The sentence that says what the fault of a command line is, with the word that is at fault. Memory may run out.
 fn reason(
     alloc: Global,
     command: Option<Head>,
@@ -148,7 +149,7 @@ fn reason(
     }
 }
 
-// That a word behind the command is none of its options, or one too many.
+// That a word behind the command is none of its options, or one too many. Memory may run out.
 fn no_option(alloc: Global, name: &str, word: &str) -> Result<String, AllocError> {
     if word.starts_with('-') {
         return format!(in alloc; "{name} has no option {word:?}");
@@ -156,13 +157,13 @@ fn no_option(alloc: Global, name: &str, word: &str) -> Result<String, AllocError
     format!(in alloc; "{name} takes no further word {word:?}")
 }
 
-// That an option cannot have this value, and what the usage says of the option.
+// That an option cannot have this value, and what the usage says of the option. Memory may run out.
 fn no_value(alloc: Global, option: &str, value: &str) -> Result<String, AllocError> {
     let says = said_of(option);
     format!(in alloc; "{value:?} is no value of {option}: {says}")
 }
 
-// The words are text; what is none can't come here.
+// The word as text. A word that is no text can't come here.
 fn text(word: &[u8]) -> &str {
     match str::from_utf8(word) {
         Ok(text) => text,
@@ -189,7 +190,7 @@ struct Setting {
     says: &'static str,
 }
 
-// The option with this name, which has no dashes.
+// The value and the description of the option with this name, which has no dashes; none for another name.
 fn setting_of(option: &str) -> Option<Setting> {
     for (_, name, value, says) in OPTIONS {
         if name == option {
@@ -199,7 +200,7 @@ fn setting_of(option: &str) -> Option<Setting> {
     None
 }
 
-// What the usage says of an option, whose name may have dashes.
+// What the usage says of an option, whose name may have dashes; empty where there is no such option.
 fn said_of(option: &str) -> &'static str {
     match setting_of(option.trim_start_matches('-')) {
         Some(setting) => setting.says,
@@ -207,7 +208,7 @@ fn said_of(option: &str) -> &'static str {
     }
 }
 
-// Whether an option has a value; a switch has none.
+// Whether an option has a value; a switch has none, nor has another name.
 fn has_value(option: &str) -> bool {
     match setting_of(option) {
         Some(setting) => setting.value != "",
@@ -215,7 +216,8 @@ fn has_value(option: &str) -> bool {
     }
 }
 
-// What may have been meant, to be written behind the reason.
+// The question which word may have been meant, to be written behind the reason; empty where none is near. Memory may
+// run out.
 fn hint(
     alloc: Global,
     command: Option<Head>,
@@ -234,7 +236,7 @@ fn hint(
     }
 }
 
-// The question whether the name nearest to the word was meant, if one is near, or nothing.
+// The question whether the name nearest to the word was meant, if one is near, or nothing. Memory may run out.
 fn meant(alloc: Global, word: &str, names: &[&'static str]) -> Result<String, AllocError> {
     match nearest(alloc, word, names)? {
         Some(name) => format!(in alloc; "; did you mean {name}?"),
@@ -242,7 +244,7 @@ fn meant(alloc: Global, word: &str, names: &[&'static str]) -> Result<String, Al
     }
 }
 
-// The question whether the command nearest to the word was meant.
+// The question whether the command nearest to the word was meant, if one is near, or nothing. Memory may run out.
 fn meant_command(alloc: Global, word: &str) -> Result<String, AllocError> {
     let mut names = Vec::new(alloc);
     for (command, _) in COMMANDS {
@@ -252,7 +254,8 @@ fn meant_command(alloc: Global, word: &str) -> Result<String, AllocError> {
     meant(alloc, word, names.as_slice())
 }
 
-// An option and its value may stand in one word. What is no option may be the name of a file.
+// The question whether an option, or a file, was meant. An option and its value may stand in one word. What begins as
+// no option may be the name of a file. Memory may run out.
 fn meant_option(alloc: Global, command: &str, word: &str) -> Result<String, AllocError> {
     let (name, value) = match word.split_once('=') {
         Some(parts) => parts,
@@ -266,7 +269,7 @@ fn meant_option(alloc: Global, command: &str, word: &str) -> Result<String, Allo
     }
 }
 
-// The option of the command that is nearest to the name, if one is near.
+// The option of the command that is nearest to the name, if one is near. Memory may run out.
 fn nearest_option(
     alloc: Global,
     command: &str,
@@ -282,7 +285,7 @@ fn nearest_option(
 }
 
 // The question whether the option was meant, with this value where there is one. Of the value no control character is
-// written.
+// written. Memory may run out.
 fn meant_value(alloc: Global, option: &str, value: &str) -> Result<String, AllocError> {
     if value == "" {
         return format!(in alloc; "; did you mean --{option}?");
@@ -297,6 +300,7 @@ fn is_file(command: &str, word: &str) -> bool {
 }
 
 // The question whether the word is the name of a file that was to be read. Of it no control character is written.
+// Memory may run out.
 fn meant_file(alloc: Global, word: &str) -> Result<String, AllocError> {
     let file = word.escape_debug();
     format!(in alloc; "; it reads standard input: did you mean < {file}?")
