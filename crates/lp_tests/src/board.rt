@@ -20,7 +20,7 @@ fn words() -> BasisWords {
     words
 }
 
-// The shape of the words.
+// The shape of that basis: its first 25 words.
 fn shape() -> ShapeWords {
     let mut shape = [0u64; 25];
     shape[0] = 65537;
@@ -31,7 +31,7 @@ fn shape() -> ShapeWords {
 // The most turns that the second thread waits for the flag.
 const TURNS: u32 = 100_000_000;
 
-// Publishes the words, and then raises the flag.
+// Publishes the words, and then raises the flag. Gives the pass back, and what the publication came to.
 fn first(board: &Board, mut pass: Pass, words: &BasisWords, flag: &AtomicU64) -> (Pass, Put)
     requires board { pass.board ≡ id_of board.now }
     requires formed { IsWellFormed words.now }
@@ -42,7 +42,8 @@ fn first(board: &Board, mut pass: Pass, words: &BasisWords, flag: &AtomicU64) ->
     (pass, put)
 }
 
-// Waits for the flag, looks for the shape, and publishes the words twice.
+// Waits for the flag, looks for the shape, and publishes the words twice. Gives the pass back, and what each of the
+// three came to.
 fn second(
     board: &Board,
     mut pass: Pass,

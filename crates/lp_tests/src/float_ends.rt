@@ -15,7 +15,7 @@ enum Start {
     Near(&'static str),
 }
 
-// The end of the run.
+// The end of a run in floats from this start, if it has one.
 fn end_of(alloc: Global, model: &Model, start: Start) -> Result<Option<FloatEnd>, AllocError> {
     match start {
         Start::Logical => float_end(alloc, model, None),
@@ -30,7 +30,7 @@ fn end_of(alloc: Global, model: &Model, start: Start) -> Result<Option<FloatEnd>
     }
 }
 
-// Whether the run ends, and at a basis with this answer.
+// Whether a run in floats from this start ends, at a basis with the wanted answer, which the checker accepts.
 fn has_answer(
     alloc: Global,
     model: &Model,
@@ -52,7 +52,7 @@ fn has_answer(
 // A model, the start of a run, and the answer at its end.
 type Case = (&'static str, Start, &'static str);
 
-// Whether the run ends at a basis with this answer.
+// Whether a run in floats for the case's model and start ends at a basis with the wanted answer.
 fn holds(alloc: Global, case: Case) -> Result<bool, AllocError> {
     let (text, start, wanted) = case;
     match model_of(alloc, text)? {
@@ -102,7 +102,7 @@ const CASES: [Case; 12] = [
     (RISING, Start::Logical, "unbounded"),
 ];
 
-// The place of the first case that does not hold.
+// The place of the first case that does not hold; none if all hold.
 fn first_wrong(alloc: Global, cases: &[Case]) -> Result<Option<usize>, AllocError> {
     for place in 0..cases.len() {
         if !holds(alloc, cases[place])? {

@@ -11,6 +11,7 @@ use std::test::Fail;
 use std::thread;
 use std::thread::Threads;
 
+/// How many passes publish, each on a thread of its own.
 const PASSES: usize = 16;
 
 // A pass, and what its publication and its look came to.
@@ -33,7 +34,7 @@ impl Publisher {
         }
     }
 
-    // Publishes the words, and keeps what that came to.
+    // Publishes the words, and notes what that came to.
     fn publish(&mut self, board: &Board, words: &BasisWords)
         requires board { self.old.pass.board ≡ id_of board.now }
         requires formed { IsWellFormed words.now }
@@ -42,7 +43,7 @@ impl Publisher {
         self.put = Some(board.publish(&mut self.pass, words));
     }
 
-    // Whether the words are found at place 0.
+    // Looks for the basis with these words, and notes whether it is found at place 0.
     fn look(&mut self, board: &Board, words: &BasisWords)
         requires { self.old.pass.board ≡ id_of board.now }
         ensures { self.new.pass.board ≡ id_of board.now }
@@ -63,7 +64,7 @@ impl Publisher {
     }
 }
 
-// The pass and others that are cut off it, as publishers.
+// As many publishers as there are passes: one for the pass, and others for those that are split off it.
 fn publishers(alloc: Global, board: &Board, mut first: Pass) -> Result<Vec<Publisher>, AllocError>
     requires board { first.board ≡ id_of board.now }
     requires share { first.view.share ≡ 64 }

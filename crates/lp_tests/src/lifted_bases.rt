@@ -11,7 +11,7 @@ use spec_pivot::Status;
 use std::alloc::{AllocError, Global};
 use std::test::Fail;
 
-// The model that a text spells, if it has fewer than a hundred lines.
+// The model that a text spells in free style, if it has at most a hundred lines; none where it spells none.
 pub(crate) fn model_of(alloc: Global, text: &str) -> Result<Option<Model>, AllocError> {
     let mut pieces = Texts::new(alloc);
     pieces.push(Bytes::from_slice(alloc, text.as_bytes())?)?;
@@ -31,7 +31,7 @@ pub(crate) fn model_of(alloc: Global, text: &str) -> Result<Option<Model>, Alloc
     Ok(None)
 }
 
-// Basic, at the lower bound, at the upper one, or at zero.
+// The status that a letter says: `B` basic, `L` at the lower bound, `U` at the upper bound, any other at 0.
 fn status_of(letter: u8) -> Status {
     match letter {
         b'B' => Status::Basic,
@@ -41,7 +41,7 @@ fn status_of(letter: u8) -> Status {
     }
 }
 
-// A status for each letter.
+// The statuses that the letters of a text say, one for each.
 pub(crate) fn statuses_of(alloc: Global, letters: &str) -> Result<Vec<Status>, AllocError> {
     let mut list = Vec::new(alloc);
     for letter in letters.as_bytes() {
@@ -58,7 +58,8 @@ fn is_value(alloc: Global, value: &Ratio, wanted: &str) -> bool {
     }
 }
 
-// Whether a certificate is accepted and shows the wanted answer.
+// Whether the verdict accepts a certificate, and what this shows is the wanted answer: the text of an optimal value,
+// `infeasible` or `unbounded`.
 pub(crate) fn shows(alloc: Global, verdict: &Verdict, wanted: &str) -> bool {
     match verdict {
         Verdict::Yes(Known::Optimal(value)) => is_value(alloc, value, wanted),
@@ -71,7 +72,8 @@ pub(crate) fn shows(alloc: Global, verdict: &Verdict, wanted: &str) -> bool {
 // A model, a basis of it, and the answer that the basis leads to within so many steps.
 type Case = (&'static str, &'static str, u32, &'static str);
 
-// Whether the basis has this answer.
+// Whether the case's basis is lifted within its steps to a certificate that shows the wanted answer; or whether it is
+// not, where `nothing` is wanted.
 fn holds(alloc: Global, case: Case) -> Result<bool, AllocError> {
     let (text, letters, most_steps, wanted) = case;
     let Some(model) = model_of(alloc, text)? else {
@@ -204,7 +206,7 @@ const CASES: [Case; 38] = [
     (NO_ROWS, "B", 9, "-6"),
 ];
 
-// The place of the first case that does not hold.
+// The place of the first case that does not hold; none if all hold.
 fn first_wrong(alloc: Global, cases: &[Case]) -> Result<Option<usize>, AllocError> {
     for place in 0..cases.len() {
         if !holds(alloc, cases[place])? {

@@ -18,7 +18,7 @@ const FIRST: &str = "LOADED 1 1\nOPTIMAL 1\nHOW COLD PIVOTS 1 PUBLISHED 0\nBYE\n
 
 const SECOND: &str = "LOADED 1 1\nOPTIMAL 1\nHOW BASIS 0 PIVOTS 0 SAME\nBYE\n";
 
-// A link on which these bytes come, three at a time, and of which these reads and writes fail.
+// A link on which these bytes come, three at a time. Its reads and writes with the listed numbers fail.
 fn failing_link(
     alloc: Global,
     text: &[u8],
@@ -93,7 +93,8 @@ fn no_link_comes(rt: HostRuntime) -> Result<(), Fail> {
     Ok(())
 }
 
-// Whether a link is served so: its line is this one, and what was taken is the first of its replies, and not all.
+// Whether a link is served with this line for its end, and what was written to it is a beginning of its replies, and
+// not all.
 fn ends_early<R: Threads + Wait + Sync>(
     rt: &R,
     alloc: Global,

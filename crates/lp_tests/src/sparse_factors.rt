@@ -36,7 +36,7 @@ fn solves_modulo_the_prime(rt: HostRuntime) -> Result<(), Fail> {
     Ok(())
 }
 
-// The next of a list of numbers that look random.
+// The next of a list of numbers that look random, below 2^31. The state moves on.
 fn next(state: &mut u64) -> u64 {
     *state = state
         .wrapping_mul(6364136223846793005)
@@ -44,7 +44,8 @@ fn next(state: &mut u64) -> u64 {
     *state >> 33
 }
 
-// The columns of a square matrix of small numbers, with few in a column, and on the diagonal.
+// The columns of a square matrix whose entries are 1 or -1, with few in a column, and one on each place of the
+// diagonal.
 fn sparse(alloc: Global, size: usize, state: &mut u64) -> Result<Lines<Residue>, AllocError> {
     let mut columns = Lines::new(alloc);
     for j in 0..size {
@@ -59,7 +60,7 @@ fn sparse(alloc: Global, size: usize, state: &mut u64) -> Result<Lines<Residue>,
     Ok(columns)
 }
 
-// The square matrix with these columns times numbers.
+// The product of the square matrix with these columns and the vector `x`, modulo the prime.
 fn product(
     alloc: Global,
     columns: &Lines<Residue>,

@@ -41,7 +41,7 @@ impl Heard {
     }
 }
 
-// Whether that came within so many turns.
+// Whether the awaited flag is raised within `TURNS` turns, of a millisecond or more each.
 fn comes<R: Clock>(rt: &R, awaited: &AtomicU64) -> bool {
     for _ in 0..TURNS {
         if awaited.load(Ordering::SeqCst) == 1 {
@@ -63,13 +63,13 @@ fn hears(mut stream: &TcpStream, reply: &str) -> bool {
     true
 }
 
-// Whether the text is answered by this reply.
+// Sends the text on the stream, and says whether the next bytes that come are this reply.
 fn is_answered(mut stream: &TcpStream, text: &str, reply: &str) -> bool {
     stream.write_all(text.as_bytes()).is_ok() && hears(stream, reply)
 }
 
-// A client, which solves its model only once what it waits for has come, and asks how its answer was found. Whether it
-// read every reply; it closes its link at the first that it did not.
+// Talks as a client, which solves its model only once what it waits for has come, and asks how its answer was found.
+// Says whether it read every reply; it closes its link at the first that it did not.
 fn talk<R: Clock>(
     rt: &R,
     stream: TcpStream,
@@ -88,7 +88,8 @@ fn talk<R: Clock>(
     is_answered(&stream, "HOW\n", how) && is_answered(&stream, "QUIT\n", "BYE\n")
 }
 
-// A socket that listens, and the stream of a client that it has not accepted yet.
+// A socket that listens on loopback, and the stream of a client that it has not accepted yet. Each read of the client
+// waits at most `PATIENCE` seconds.
 fn listening<R>(rt: &R) -> io::Result<(TcpListener, TcpStream)>
 where
     R: Net<Listener = TcpListener, Stream = TcpStream>,

@@ -22,7 +22,7 @@ fn is_usual(model: &Model) -> bool
     model.rows() <= USUAL_LIMITS.rows && model.cols() <= USUAL_LIMITS.columns
 }
 
-// The model as one that a session may hold.
+// The model of the test as one that a session may hold; none where its text spells no usual model.
 fn held(alloc: Global) -> Result<Option<UsualModel>, AllocError> {
     let Some(model) = model_of(alloc, MODEL)? else {
         return Ok(None);
@@ -34,7 +34,7 @@ fn held(alloc: Global) -> Result<Option<UsualModel>, AllocError> {
     Ok(None)
 }
 
-// The world takes one act of the session. The reply is dropped.
+// The world takes one act of the session. What it replies is dropped.
 fn step(alloc: Global, world: &mut World, session: u32, act: Act<Ask>) {
     let _ = world.step(alloc, Event { session, act });
 }
@@ -57,7 +57,7 @@ fn come_to_the_claim(alloc: Global, world: &mut World, session: u32) {
     step(alloc, world, session, Act::Count);
 }
 
-// What became of the basis of the session's last answer.
+// What became of the basis of the session's last answer; none if no place was tried for it.
 fn published(alloc: Global, world: &mut World, session: u32) -> Option<Put> {
     let act = Act::Ask(Ask::Plain(Plain::How));
     match world.step(alloc, Event { session, act }) {

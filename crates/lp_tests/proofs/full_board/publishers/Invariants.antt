@@ -4,6 +4,8 @@ use Rattle.std.specs.Prelude.{All}
 use Rattle.basis_board.specs.Id.{id_of}
 use Rattle.lp_tests.proofs.full_board.publishers.Given as goal
 
+-- all publishers so far and the first pass are of the board, and one pass fewer can be split off the first for each of
+-- them
 abbrev pub invariant-loop-index : goal.invariant-loop-index
 invariant-loop-index l =
     record {

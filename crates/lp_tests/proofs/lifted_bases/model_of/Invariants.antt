@@ -2,5 +2,6 @@
 use Rattle.std.proofs.Common.{◌≡◌}
 use Rattle.lp_tests.proofs.lifted_bases.model_of.Given as goal
 
+-- the reader has read as many lines as were gone over
 abbrev pub invariant-loop : goal.invariant-loop
 invariant-loop l = l.reader.lines ≡ l.counter
