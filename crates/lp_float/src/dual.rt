@@ -6,7 +6,8 @@ use crate::number::{add_at, at, index_at, put};
 use crate::program::Program;
 use crate::rebuild::{add_column, evaluate, make_row, reduce, solve_column, solve_unit};
 use crate::sparse::{copy_to, square};
-use crate::state::{Room, State, put_status, refactor};
+use crate::state::{Room, State, refactor};
+use crate::statuses::put_status;
 use spec_pivot::Status;
 use std::alloc::{AllocError, Global};
 

@@ -1,7 +1,8 @@
 // Which column enters by the dual method: the ratio test of Harris ("Pivot selection methods of the Devex LP code", 1973),
 // over groups of columns of which those before the entering one go to their other bounds.
 use crate::number::{at, index_at};
-use crate::state::{State, status_at};
+use crate::state::State;
+use crate::statuses::status_at;
 use spec_pivot::Status;
 use std::alloc::{AllocError, Global};
 

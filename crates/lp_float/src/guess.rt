@@ -2,10 +2,10 @@
 ghost use Rattle.std.specs.Prelude.{◌≡◌, ◌+◌, IfOk, IfSome, length};
 ghost use Rattle.spec_model.specs.Model.{width, height};
 
+use crate::end::{FloatEnd, fitted_end};
 use crate::model::program_of;
 use crate::program::Program;
-use crate::runs::{FloatEnd, logical_start, run, run_near};
-use crate::state::status_at;
+use crate::runs::{logical_start, run, run_near};
 use lp_model::Model;
 use spec_pivot::Status;
 use std::alloc::{AllocError, Global};
@@ -29,17 +29,6 @@ fn effort(program: &Program) -> u64 {
     steps.min(WORK / columns)
 }
 
-// A status for each column and each row of a model: those given, and basic ones where they end.
-fn fitted(alloc: Global, model: &Model, statuses: &[Status]) -> Result<Vec<Status>, AllocError>
-    ensures { IfOk result (λ l. length l.items ≡ width model.now + height model.now) }
-{
-    let mut list = Vec::new(alloc);
-    for k in 0..model.cols() + model.rows() {
-        list.push(status_at(statuses, k as usize))?;
-    }
-    Ok(list)
-}
-
 // The end of a run from these statuses, or from the logical basis where there are none; `None` where the run gives up.
 fn end_from(
     alloc: Global,
@@ -52,23 +41,6 @@ fn end_from(
             let statuses = logical_start(alloc, program)?;
             run(alloc, program, &statuses, effort(program))
         }
-    }
-}
-
-// The end, if there is one, with a status for each column and each row of a model.
-fn fitted_end(
-    alloc: Global,
-    model: &Model,
-    end: Option<FloatEnd>,
-) -> Result<Option<FloatEnd>, AllocError>
-    ensures { IfOk result (λ o. IfSome o (λ e. length e.statuses.items ≡ width model.now + height model.now)) }
-{
-    match end {
-        Some(end) => Ok(Some(FloatEnd {
-            statuses: fitted(alloc, model, &end.statuses)?,
-            witness: end.witness,
-        })),
-        None => Ok(None),
     }
 }
 

@@ -1,10 +1,12 @@
 // Whole runs.
 use crate::dual::{DualEnd, run_dual};
+use crate::end::FloatEnd;
 use crate::number::{at, copy, fill, greatest, mixed, put};
 use crate::primal::{PrimalEnd, run_primal};
 use crate::program::Program;
 use crate::rebuild::{evaluate, reduce};
-use crate::state::{Limits, State, resting, state_at, status_at};
+use crate::state::{Limits, State, resting, state_at};
+use crate::statuses::status_at;
 use spec_pivot::Status;
 use std::alloc::{AllocError, Global};
 
@@ -40,25 +42,6 @@ enum Kind {
     Unbounded(usize),
     /// The effort is spent, or the numbers are of no use.
     GivenUp,
-}
-
-/// The end of a run in floats.
-pub struct FloatEnd {
-    /// Where each column stands, the structural ones first and then the logical one of each row.
-    pub statuses: Vec<Status>,
-    /// The column by which there is no optimum: a basic one that nothing brings within its bounds, or another one that
-    /// nothing stops. There is none at an optimum.
-    pub witness: Option<usize>,
-}
-
-impl Drop for FloatEnd {
-    fn drop(self) {
-        let FloatEnd {
-            statuses,
-            witness: _,
-        } = self;
-        drop(statuses);
-    }
 }
 
 // The status of a column in the logical basis: basic if it is logical, else at the bound nearer to 0, or at 0 without

@@ -2,6 +2,7 @@
 use crate::basis::{Basis, NOWHERE, basis_of};
 use crate::number::{at, index_at, put};
 use crate::program::Program;
+use crate::statuses::{is_basic, put_status, status_at};
 use lp_sparse::Sparse;
 use spec_pivot::Status;
 use std::alloc::{AllocError, Global};
@@ -101,29 +102,6 @@ impl Drop for State {
         drop(weight);
         drop(reference);
         drop(room);
-    }
-}
-
-/// Whether a status is that of a basic column.
-#[inline(always)]
-pub(crate) fn is_basic(status: Status) -> bool {
-    matches!(status, Status::Basic)
-}
-
-/// The status of a column, basic where there is none.
-#[inline(always)]
-pub(crate) fn status_at(list: &[Status], k: usize) -> Status {
-    match list.get(k) {
-        Some(status) => *status,
-        None => Status::Basic,
-    }
-}
-
-/// Sets the status at `k`, if the list is that long.
-#[inline(always)]
-pub(crate) fn put_status(list: &mut [Status], k: usize, status: Status) {
-    if let Some(place) = list.get_mut(k) {
-        *place = status;
     }
 }
 

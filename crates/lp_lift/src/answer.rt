@@ -5,6 +5,7 @@ ghost use Rattle.spec_check.specs.Certificate.{IsFor};
 ghost use Rattle.lp_lift.specs.Ends.{EndsFor};
 
 use crate::kernel::{Preparation, Prepared, prepare};
+use crate::lifted::{Lifted, Step, lifted_from};
 use crate::moves::{
     Entering, Leaving, advance, blocked, dual_entering, entering_at, exchange, flip_wrong,
     furthest_outside, leaving_at, most_wrong,
@@ -24,14 +25,6 @@ use lp_model::Model;
 use lp_sparse::Solved;
 use spec_pivot::Status;
 use std::alloc::{AllocError, Global};
-
-/// A certificate that is likely right, the statuses of the basis that it comes from, and how many steps led to it.
-#[derive(Drop)]
-pub struct Lifted {
-    pub certificate: Certificate,
-    pub statuses: Vec<Status>,
-    pub steps: u32,
-}
 
 // The point and the multipliers of a basis, and how its columns stand.
 struct Found {
@@ -122,14 +115,6 @@ fn units(alloc: Global, len: usize, k: usize, is_positive: bool) -> Result<Vec<F
         *number = unit(is_positive);
     }
     Ok(list)
-}
-
-/// What a step comes to: another basis or other costs, a certificate, or nothing, as a number is past what is taken.
-#[derive(Drop)]
-enum Step {
-    Moved,
-    Ended(Certificate),
-    Lost,
 }
 
 // The values of the structural columns: a column of the kernel has the value that the lifted solution gives it, and any
@@ -474,7 +459,7 @@ pub fn answer_of_basis(
 }
 
 impl Run {
-    // The run's end with this certificate, its statuses and its steps. None where there are not statuses of `columns`
+    // The run's end with this certificate, its statuses and its steps. `None` where there are not statuses of `columns`
     // columns.
     fn into_lifted(self, columns: usize, certificate: Certificate) -> Option<Lifted>
         ensures certificate { IfSome result (λ l. l.certificate ≡ certificate) }
@@ -488,15 +473,6 @@ impl Run {
             witness: _,
         } = self;
         drop(costs);
-        if statuses.len() != columns {
-            drop(statuses);
-            drop(certificate);
-            return None;
-        }
-        Some(Lifted {
-            certificate,
-            statuses,
-            steps,
-        })
+        lifted_from(certificate, statuses, columns, steps)
     }
 }

@@ -3,6 +3,7 @@
 //! | Item | What it is | Where |
 //! |---|---|---|
 //! | `answer_of_basis` | the certificate of a basis, or of one that is reached from it in a few steps | src/answer |
+//! | `Lifted` | such a certificate, with its basis | src/lifted |
 //! | `Program`, statuses | a model with logical columns, and where columns stand | src/program, src/statuses |
 //! | `prepare`, `Kernel` | the basic structural columns in the rows whose logical is not basic, with whole numbers, factored | src/kernel, src/scales, src/wide_kernel |
 //! | `solve_columns`, `solve_rows` | the two systems of a basis | src/solving, src/sides, src/wide_sides |
@@ -16,6 +17,7 @@
 mod amounts;
 mod answer;
 mod kernel;
+mod lifted;
 mod moves;
 mod near;
 mod numbers;
@@ -30,4 +32,5 @@ mod wide_kernel;
 mod wide_sides;
 mod wide_standing;
 
-pub use answer::{Lifted, answer_of_basis};
+pub use answer::answer_of_basis;
+pub use lifted::Lifted;

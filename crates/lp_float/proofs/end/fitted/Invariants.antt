@@ -1,6 +1,6 @@
 -- As many so far as were gone over.
 use Rattle.std.proofs.Common.{◌≡◌, length}
-use Rattle.lp_float.proofs.guess.fitted.Given as goal
+use Rattle.lp_float.proofs.end.fitted.Given as goal
 
 -- the list has a status for each column and row that was gone over so far
 abbrev pub invariant-loop-k : goal.invariant-loop-k
