@@ -271,8 +271,9 @@ fn exchange_surely(
     Ok(DualStep::Done)
 }
 
-// One step of the dual method: takes a leaving column, chooses an entering one by the ratio test, and exchanges them.
-// It ends where each basic value is within its bounds, or no column may enter.
+// One step of the dual method: takes a leaving column, chooses an entering one by the ratio test, and exchanges them;
+// or only corrects a weight that is far off, or asks for new factors. It ends where each basic value is within its
+// bounds, no column may enter, or the numbers are of no use.
 fn dual_step(
     state: &mut State,
     program: &Program,
@@ -315,7 +316,7 @@ fn correct(state: &mut State, k: usize) {
     }
 }
 
-// Brings all wrong reduced costs right, by other bounds or by shifts of costs.
+// Brings all reduced costs right that are wrong beyond the tolerance, by other bounds or by shifts of costs.
 fn correct_all(state: &mut State) {
     for k in 0..state.status.len() {
         if state.wrong(k) > state.limits.dual {
@@ -333,8 +334,8 @@ fn rebuild(alloc: Global, state: &mut State, program: &Program) -> Result<(), Al
     evaluate(state, program)
 }
 
-// Takes steps of the dual method until its end, or until `effort` steps are spent. New factors are made where they are
-// due.
+// Takes steps of the dual method until its end, or until `effort` steps or as many tries are spent. New factors are
+// made where they are due.
 fn dual_steps(
     alloc: Global,
     state: &mut State,
@@ -362,8 +363,9 @@ fn dual_steps(
     Ok(DualEnd::Spent)
 }
 
-/// Runs the dual method from the state's basis to its end, until the state has taken `effort` steps in all. Reduced
-/// costs that are wrong at its beginning are made right by the other bounds or by the costs of the state.
+/// Runs the dual method from the state's basis to its end, or until the state has taken `effort` steps in all, or the
+/// run as many tries. Reduced costs that are wrong beyond the tolerance at its beginning are made right by the other
+/// bounds or by the costs of the state.
 pub(crate) fn run_dual(
     alloc: Global,
     state: &mut State,

@@ -171,8 +171,9 @@ fn flip(state: &mut State, entering: Entering, range: f64) {
     state.steps = state.steps.wrapping_add(1);
 }
 
-// Moves the entering column until a basic one or its own other bound stops it: an exchange or a flip. It is `Unbounded`
-// where nothing does, with new factors and no value outside.
+// Moves the entering column until a basic one or its own other bound stops it: an exchange or a flip. Where nothing
+// does, new factors are needed first, if some column came in since; else the end is `Lost` with a value outside, and
+// `Unbounded` without.
 fn advance(
     state: &mut State,
     program: &Program,
@@ -204,8 +205,8 @@ fn at_rest(state: &State, is_outside: bool) -> PrimalStep {
     }
 }
 
-// One step of the primal method: prices, takes the entering column, and exchanges or flips. `was_outside` says whether
-// values were outside at the step before, and is brought up to date.
+// One step of the primal method: prices, takes the entering column, and exchanges or flips; or ends, or asks for new
+// factors. `was_outside` says whether values were outside at the step before, and is brought up to date.
 fn primal_step(
     state: &mut State,
     program: &Program,
@@ -243,7 +244,8 @@ fn rebuild(alloc: Global, state: &mut State, program: &Program) -> Result<(), Al
     reduce(state, program)
 }
 
-/// Runs the primal method in floats from the state's basis to its end, until the state has taken `effort` steps in all.
+/// Runs the primal method in floats from the state's basis to its end, or until the state has taken `effort` steps in
+/// all, or the run as many tries.
 pub(crate) fn run_primal(
     alloc: Global,
     state: &mut State,

@@ -58,7 +58,8 @@ fn first_status(program: &Program, k: usize) -> Status {
     }
 }
 
-/// The statuses of the basis of the logical columns, with each structural column at the bound nearer to 0.
+/// The statuses of the basis of the logical columns, with each structural column at the bound nearer to 0, or at 0
+/// without bounds.
 pub(crate) fn logical_start(alloc: Global, program: &Program) -> Result<Vec<Status>, AllocError> {
     let mut list = Vec::with_capacity(alloc, program.len())?;
     for k in 0..program.len() {
@@ -287,7 +288,8 @@ fn polish(
     }
 }
 
-// The end of a run of this kind: that of another round with tight tolerances, if it ends alike, else the one before it.
+// The end of a run of this kind: that of another round with tight tolerances, where such a round may lead further and
+// ends alike; else the one before it.
 fn last_end(
     alloc: Global,
     state: &mut State,
@@ -347,9 +349,9 @@ pub(crate) fn run(
     end_of(alloc, &mut state, program, effort)
 }
 
-/// The end of a run that leaves the costs as they are, with tight tolerances, if it has one within a few steps. It begins at
-/// the basis of the given statuses, which is mended where it is none, and takes at most `effort` steps. Only want of memory
-/// is an error.
+/// The end of a short run, if it has one: one round from the basis of the given statuses, which is mended where it is
+/// none. No costs are moved apart at first, and tolerances are tight. It takes at most `effort` steps, and 1,000. Only
+/// want of memory is an error.
 pub(crate) fn run_near(
     alloc: Global,
     program: &Program,

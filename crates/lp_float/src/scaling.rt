@@ -16,7 +16,8 @@ const COST: f64 = 1024.0;
 // Where the greatest bound is below this, it is brought up to 1.
 const BOUND: f64 = 1e-3;
 
-// The power of two nearest to a number above 0: the number is from 3/4 of it to 3/2 of it.
+// The power of two near a number above 0: the number is from 3/4 of it to 3/2 of it, unless it is more than 400
+// doublings or halvings from 1.
 fn power_near(number: f64) -> f64 {
     let mut power = 1.0;
     for _ in 0..DOUBLINGS {
@@ -172,7 +173,8 @@ fn multiply(bounds: &mut [f64], times: f64) {
     }
 }
 
-// Multiplies all bounds by one power of two where all are below 1/1000, so that the greatest is near 1.
+// Multiplies all bounds by one power of two where all finite ones are below 1/1000 and some is not 0, so that the
+// greatest of these is near 1.
 fn scale_bounds(program: &mut Program) {
     let most = greatest_bound(&program.lower).max(greatest_bound(&program.upper));
     if most > 0.0 && most < BOUND {

@@ -12,7 +12,7 @@ fn unless_zero(sum: f64) -> f64 {
     if sum == 0.0 { TRACE } else { sum }
 }
 
-/// Adds `more` to the number at `k`, and notes the place if it is new.
+/// Adds `more` to the number at `k`, where a tiny number stands for a sum of 0, and notes the place if it is new.
 #[inline(always)]
 pub(crate) fn add_to(list: &mut Sparse<f64>, k: usize, more: f64) -> Result<(), AllocError> {
     let before = at(&list.numbers, k);
@@ -23,7 +23,7 @@ pub(crate) fn add_to(list: &mut Sparse<f64>, k: usize, more: f64) -> Result<(), 
     Ok(())
 }
 
-/// Sets the number at `k`, and notes the place if it is new.
+/// Sets the number at `k`, a tiny one in place of 0, and notes the place if it is new.
 #[inline(always)]
 pub(crate) fn put_in(list: &mut Sparse<f64>, k: usize, number: f64) -> Result<(), AllocError> {
     if at(&list.numbers, k) == 0.0 && !list.is_full() {
@@ -41,7 +41,8 @@ fn add_noted(list: &mut [f64], line: &[Entry<f64>], times: f64) {
     }
 }
 
-/// Adds `times` times a sparse line to the numbers, and notes the new places.
+/// Adds `times` times a sparse line to the numbers, and notes the new places. Unless all places were noted before, a
+/// tiny number stands for a sum of 0.
 #[inline(always)]
 pub(crate) fn add_line(
     list: &mut Sparse<f64>,

@@ -120,7 +120,8 @@ fn basic_columns(
     Ok(head)
 }
 
-// As many columns as there are rows: the basic ones of statuses, and logical ones where they are too few.
+// The basic columns of statuses, as many as there are rows at most. Where they are fewer, logical ones that the
+// statuses say are not basic follow; they stay fewer where the statuses end before the logical columns.
 fn head_of(alloc: Global, program: &Program, status: &[Status]) -> Result<Vec<usize>, AllocError> {
     let mut head = basic_columns(alloc, program, status)?;
     for i in 0..program.rows {
