@@ -23,7 +23,7 @@ use lp_check::wide::{Certificate, Ratios};
 use lp_frac::{Frac, neg, one, zero};
 use lp_model::Model;
 use lp_sparse::Solved;
-use spec_pivot::Status;
+use spec_pivot::{Status, Way};
 use std::alloc::{AllocError, Global};
 
 // The point and the multipliers of a basis, and how its columns stand.
@@ -76,8 +76,8 @@ impl Drop for Run {
     }
 }
 
-// The exact point and multipliers at the basis of a run, with the rooms and reduced costs in floats; `None` where
-// lifting found no solution of the basis' equations.
+// The exact point and multipliers at the basis of a run, with the rooms and reduced costs in floats; `None` where the
+// right sides are too wide or lifting found no solution of the basis' equations.
 fn found_at(
     alloc: Global,
     program: &Program<'_>,
@@ -103,16 +103,27 @@ fn found_at(
     }))
 }
 
-// The fraction 1, or -1 where it is not positive.
-fn unit(is_positive: bool) -> Frac {
-    if is_positive { one() } else { neg(one()) }
+// The other way.
+fn back(way: Way) -> Way {
+    match way {
+        Way::Up => Way::Down,
+        Way::Down => Way::Up,
+    }
 }
 
-// Numbers of all columns: 1 or -1 for column `k`, and 0 for each other one.
-fn units(alloc: Global, len: usize, k: usize, is_positive: bool) -> Result<Vec<Frac>, AllocError> {
+// The fraction 1 up, and -1 down.
+fn unit(way: Way) -> Frac {
+    match way {
+        Way::Up => one(),
+        Way::Down => neg(one()),
+    }
+}
+
+// Numbers of all columns: 1 (up) or -1 (down) for column `k`, and 0 for each other one.
+fn units(alloc: Global, len: usize, k: usize, way: Way) -> Result<Vec<Frac>, AllocError> {
     let mut list = Vec::from_elem(alloc, zero(), len)?;
     if let Some(number) = list.get_mut(k) {
-        *number = unit(is_positive);
+        *number = unit(way);
     }
     Ok(list)
 }
@@ -181,13 +192,20 @@ fn infeasible(
 ) -> Result<Step, AllocError>
     ensures { IfOk result (EndsFor program.now.model.now) }
 {
-    let outside = units(alloc, columns, leaving.column, !leaving.is_below)?;
-    let y = multipliers(alloc, program, prepared, solved, leaving.is_below, &outside)?;
+    let outside = units(alloc, columns, leaving.column, back(leaving.way))?;
+    let y = multipliers(
+        alloc,
+        program,
+        prepared,
+        solved,
+        leaving.is_below(),
+        &outside,
+    )?;
     Ok(Step::Ended(Certificate::Infeasible { y }))
 }
 
 // A step of the dual method: exchanges the leaving column with the one that enters for it. Ends with Farkas multipliers
-// where none may enter; `Lost` where lifting finds no solution.
+// where none may enter; `Lost` where right sides are too wide or lifting finds no solution.
 fn dual_step(
     alloc: Global,
     program: &Program<'_>,
@@ -199,7 +217,7 @@ fn dual_step(
     ensures { IfOk result (EndsFor program.now.model.now) }
 {
     let kernel = &prepared.kernel;
-    let costs = units(alloc, run.statuses.len(), leaving.column, true)?;
+    let costs = units(alloc, run.statuses.len(), leaving.column, Way::Up)?;
     let Some(solved) = solve_rows(alloc, program, prepared, &costs)? else {
         return Ok(Step::Lost);
     };
@@ -210,7 +228,7 @@ fn dual_step(
                 &mut run.statuses,
                 entering,
                 leaving.column,
-                leaving.is_below,
+                leaving.is_below(),
             );
             Ok(Step::Moved)
         }
@@ -250,7 +268,7 @@ fn unbounded(
 }
 
 // A step of the primal method: the entering column goes as far as it may, and exchanges or flips. Ends with a point and
-// a ray where nothing stops it; `Lost` where lifting finds no solution.
+// a ray where nothing stops it; `Lost` where right sides are too wide or lifting finds no solution.
 fn primal_step(
     alloc: Global,
     program: &Program<'_>,
@@ -261,7 +279,7 @@ fn primal_step(
 ) -> Result<Step, AllocError>
     ensures { IfOk result (EndsFor program.now.model.now) }
 {
-    let moves = units(alloc, run.statuses.len(), entering.column, entering.rises)?;
+    let moves = units(alloc, run.statuses.len(), entering.column, entering.way)?;
     let Some(solved) = solve_columns(alloc, program, prepared, &moves)? else {
         return Ok(Step::Lost);
     };

@@ -111,7 +111,8 @@ impl Drop for WholeKernel {
     }
 }
 
-// The digit nearest to 0 that is congruent to a number modulo the prime, and the quotient by the prime of the rest.
+// The digit nearest to 0 that is congruent to a number modulo the prime, and the quotient by the prime of the rest. Of
+// a number nearer than the prime to 2^127 or -2^127 both may be wrong.
 fn low_digit(n: i128) -> (i64, i128) {
     let prime = i128::from(PRIME);
     let half = prime / 2;
@@ -120,8 +121,8 @@ fn low_digit(n: i128) -> (i64, i128) {
     (i64::try_from(rest).unwrap_or(0), above)
 }
 
-// Adds the lowest digit of a number to the lower matrix, and what is above it, unless that is 0, to the upper one. Says
-// whether what is above fits 64 bits.
+// Adds the lowest digit of a number to the lower matrix, and what is above it to the upper one; a 0 goes into neither.
+// False where what is above is past 64 bits: then it is not added.
 fn put_number(
     low: &mut Lines<i64>,
     high: &mut Lines<i64>,
@@ -142,8 +143,8 @@ fn put_number(
     }
 }
 
-// Adds a column's numbers in the kernel's rows, each times its row's scale, to both matrices as digits. Says whether
-// two digits suffice for each.
+// Adds a column's numbers in the kernel's rows, each times its row's scale, to both matrices as digits. False where two
+// digits do not suffice for one: then the column stays unfinished.
 fn put_column(
     low: &mut Lines<i64>,
     high: &mut Lines<i64>,

@@ -3,20 +3,27 @@ use crate::program::Program;
 use crate::standing::{FREE, Room};
 use crate::statuses::{is_basic_at, put_status, status_at};
 use lp_frac::{Frac, are_same};
-use spec_pivot::Status;
+use spec_pivot::{Status, Way};
 
-/// A basic column outside of its bounds, and whether it is below the lower one.
+/// A basic column outside of its bounds, and the way to the bound that it passed: up where it is below the lower one.
 #[derive(Clone, Copy)]
 pub(crate) struct Leaving {
     pub(crate) column: usize,
-    pub(crate) is_below: bool,
+    pub(crate) way: Way,
+}
+
+impl Leaving {
+    /// Whether it is below its lower bound.
+    pub(crate) fn is_below(self) -> bool {
+        matches!(self.way, Way::Up)
+    }
 }
 
 /// A column that is not basic, and the way in which its reduced cost moves it.
 #[derive(Clone, Copy)]
 pub(crate) struct Entering {
     pub(crate) column: usize,
-    pub(crate) rises: bool,
+    pub(crate) way: Way,
 }
 
 /// What stops a column that moves.
@@ -44,7 +51,8 @@ pub(crate) fn float_at(list: &[f64], k: usize) -> f64 {
     }
 }
 
-// Whether a reduced cost has a sign by which a column that is not basic should move from its bound.
+// Whether a reduced cost has a sign by which a column that is neither basic nor fixed should move from its bound, or
+// from 0.
 fn is_wrong(program: &Program<'_>, statuses: &[Status], k: usize, reduced: f64) -> bool {
     if is_fixed(program.lower(k), program.upper(k)) {
         return false;
@@ -72,7 +80,8 @@ fn flip(statuses: &mut [Status], k: usize) {
     put_status(statuses, k, other);
 }
 
-/// Flips each column with two bounds whose reduced cost has the wrong sign. Says whether there was one.
+/// Flips each nonbasic column with two bounds, not fixed, whose reduced cost has the wrong sign. Says whether there was
+/// one.
 pub(crate) fn flip_wrong(program: &Program<'_>, statuses: &mut [Status], reduced: &[f64]) -> bool {
     let mut is_any = false;
     for (k, cost) in reduced.iter().enumerate() {
@@ -84,8 +93,22 @@ pub(crate) fn flip_wrong(program: &Program<'_>, statuses: &mut [Status], reduced
     is_any
 }
 
-/// The nonbasic column with the greatest reduced cost of the wrong sign, in absolute value, and whether it rises. None
-/// if no sign is wrong.
+// The way in which a column with this reduced cost makes the cost less.
+fn downhill(cost: f64) -> Way {
+    if cost < 0.0 { Way::Up } else { Way::Down }
+}
+
+// The way back to the bound that a column with this room has passed.
+fn way_back(room: Room) -> Way {
+    if room.above_lower < 0.0 {
+        Way::Up
+    } else {
+        Way::Down
+    }
+}
+
+/// The nonbasic column, not fixed, with the greatest reduced cost of the wrong sign, in absolute value, and the way in
+/// which it moves. None if no sign is wrong.
 pub(crate) fn most_wrong(
     program: &Program<'_>,
     statuses: &[Status],
@@ -98,14 +121,15 @@ pub(crate) fn most_wrong(
             most = cost.abs();
             found = Some(Entering {
                 column: k,
-                rises: *cost < 0.0,
+                way: downhill(*cost),
             });
         }
     }
     found
 }
 
-/// The way in which a column should move by its reduced cost; none where its sign is right.
+/// The way in which a column should move by its reduced cost; none where its sign is right, or the column is basic or
+/// fixed.
 pub(crate) fn entering_at(
     program: &Program<'_>,
     statuses: &[Status],
@@ -116,7 +140,7 @@ pub(crate) fn entering_at(
     if is_wrong(program, statuses, k, cost) {
         Some(Entering {
             column: k,
-            rises: cost < 0.0,
+            way: downhill(cost),
         })
     } else {
         None
@@ -128,7 +152,7 @@ pub(crate) fn leaving_at(rooms: &[Room], k: usize) -> Option<Leaving> {
     match rooms.get(k) {
         Some(room) if room.above_lower.min(room.below_upper) < 0.0 => Some(Leaving {
             column: k,
-            is_below: room.above_lower < 0.0,
+            way: way_back(*room),
         }),
         Some(_) | None => None,
     }
@@ -144,7 +168,7 @@ pub(crate) fn furthest_outside(rooms: &[Room]) -> Option<Leaving> {
             most = outside;
             found = Some(Leaving {
                 column: k,
-                is_below: room.above_lower < 0.0,
+                way: way_back(*room),
             });
         }
     }
@@ -163,7 +187,7 @@ pub(crate) fn dual_entering(
     let mut found = None;
     let (mut least, mut largest) = (f64::INFINITY, 0.0f64);
     for (k, rate) in rates.iter().enumerate() {
-        let toward = if leaving.is_below { *rate } else { -*rate };
+        let toward = if leaving.is_below() { *rate } else { -*rate };
         if !is_basic_at(statuses, k) && is_wrong(program, statuses, k, -toward) {
             let ratio = float_at(reduced, k).abs() / toward.abs();
             if ratio < least || (ratio == least && toward.abs() > largest) {

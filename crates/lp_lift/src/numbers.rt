@@ -10,7 +10,7 @@ use lp_ratio::Ratio;
 use lp_sparse::Solved;
 use std::alloc::{AllocError, Global};
 
-// The number at a place of a solution, or its opposite; 0 where the solution has no such place.
+// The number at a place of a solution, or its opposite; 0 where the solution has no such place or the denominator 0.
 fn solved_number(
     alloc: Global,
     solved: &Solved,

@@ -88,13 +88,14 @@ pub(crate) fn least_common(a: i128, b: i128) -> Option<i128> {
     (a / divisor).checked_mul(b)
 }
 
-/// A fraction times the scale at `k`, which its denominator divides; none where that is past 127 bits.
+/// A fraction times the scale at `k`, which its denominator divides; none where that is no `i128`, of which -2^127 is
+/// one.
 #[inline(always)]
 pub(crate) fn multiple(v: Frac, scales: &[i128], k: usize) -> Option<i128> {
     times_scale(v, scale_at(scales, k))
 }
 
-/// A fraction times a scale that its denominator divides; none where that is past 127 bits.
+/// A fraction times a scale that its denominator divides; none where that is no `i128`, of which -2^127 is one.
 #[inline(always)]
 pub(crate) fn times_scale(v: Frac, scale: i128) -> Option<i128> {
     let under = den(v);

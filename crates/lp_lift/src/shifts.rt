@@ -29,7 +29,7 @@ fn power_from(number: f64) -> Option<Frac> {
 }
 
 // What is added to a cost so that the reduced cost is no longer wrong for its status: a power of two or its opposite.
-// None where it is not wrong, and for a column that is basic or at 0.
+// Where the reduced cost is past 2^60, it may be too little. None where it is not wrong, and for one basic or at 0.
 fn shift_of(status: Status, reduced: f64) -> Option<Frac> {
     let is_wrong = match status {
         Status::Basic | Status::AtZero => false,
@@ -47,8 +47,8 @@ fn shift_of(status: Status, reduced: f64) -> Option<Frac> {
     }
 }
 
-/// Shifts the costs of the columns whose reduced cost is wrong for their status, so that it is right. Says whether a
-/// cost was shifted.
+/// Shifts the costs of the columns at a bound whose reduced cost is wrong for their status, so that it is right, if it
+/// is at most 2^60. A cost that would be past 127 bits stays. Says whether a cost was shifted.
 pub(crate) fn shift(costs: &mut [Frac], statuses: &[Status], reduced: &[f64]) -> bool {
     let mut is_any = false;
     for (k, cost) in costs.iter_mut().enumerate() {

@@ -61,7 +61,7 @@ fn no_sums(alloc: Global, len: usize) -> Result<Vec<Sum>, AllocError> {
 }
 
 // Adds a column's entries times a number to the sums of the rows whose logical is basic, each times its row's scale.
-// Says whether all entries so scaled are within 127 bits.
+// False where an entry so scaled is no `i128`: it and the later ones are then not added.
 fn add_column(
     sums: &mut [Sum],
     entries: &[(u32, Frac)],
@@ -83,8 +83,8 @@ fn add_column(
     Ok(true)
 }
 
-// Adds the entries of all columns, each column times its number, to the rows' sums. Says whether all entries so scaled
-// are within 127 bits.
+// Adds the entries of all columns, each column times its number, to the sums of the rows whose logical is basic, each
+// times its row's scale. False where an entry so scaled is no `i128`: the rest is then not added.
 fn add_columns(
     sums: &mut [Sum],
     program: &Program<'_>,
@@ -102,8 +102,8 @@ fn add_columns(
     Ok(true)
 }
 
-// The sums of the rows whose logical is basic, each times the row's scale, at these numbers of the columns. There are
-// none where one is past the limits.
+// The sums of the rows whose logical is basic, each times the row's scale, at these numbers of the columns; 0 for other
+// rows. There are none where an entry times its row's scale is no `i128`.
 fn row_sums(
     alloc: Global,
     program: &Program<'_>,
@@ -233,8 +233,8 @@ fn column_scale(entries: &[(u32, Frac)], cost: Frac, multipliers: &Amounts) -> O
     Some(scale)
 }
 
-// Subtracts a column's entries times the rows' multipliers from a sum, on a scale. Says whether all entries so scaled
-// are within 127 bits.
+// Subtracts a column's entries times the rows' multipliers from a sum, on a scale. False where an entry so scaled is no
+// `i128`: it and the later ones are then not subtracted.
 fn take_entries(
     sum: &mut Sum,
     entries: &[(u32, Frac)],
@@ -254,8 +254,8 @@ fn take_entries(
     Ok(true)
 }
 
-// The reduced cost of a structural column, as a float, from its cost and the rows' multipliers. None where a scaled
-// number is past 127 bits.
+// The reduced cost of a structural column, as a float, from its cost and the rows' multipliers. None where the scale is
+// past 127 bits, or an entry on it is no `i128`. A cost that is none on it is left out.
 fn reduced_cost(
     alloc: Global,
     entries: &[(u32, Frac)],
