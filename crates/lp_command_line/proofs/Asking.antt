@@ -17,13 +17,15 @@ use Rattle.std.proofs.Common.{Option, Some, None, ◌<◌, ◌≤◌, ◌-◌, l
 use Rattle.std.specs.Prelude.{codes, option_map, option_and_then}
 use Rattle.spec_mps.specs.Shapes.{look_up}
 use Rattle.spec_mps.specs.declared.style.Style.{Style}
-use Rattle.spec_program.specs.declared.command_line.CommandLine.TheVariants.{Read}
+use Rattle.spec_mps.specs.declared.style.Style.TheVariants.{Free}
+use Rattle.spec_program.specs.declared.command_line.CommandLine.TheVariants.{Run, Read, Generate, Serve}
 use Rattle.spec_program.specs.declared.command_line.Moved.{Moved}
 use Rattle.spec_program.specs.Spelled.{spelled_text}
-use Rattle.spec_program.specs.CommandLine.{ExactLine, ExactTextCommand, moved_of, is_all, range_by, range_row}
+use Rattle.spec_program.specs.CommandLine.{ExactLine, ExactTextCommand, moved_of, is_all, range_row}
 use Rattle.spec_program.specs.CommandLine.{Given, Row, Options, in_pairs, options_in, given_in, asked_by}
-use Rattle.spec_program.specs.CommandLine.{workers_given, links_given, places_given, form_given, run_by, serve_by}
-use Rattle.spec_program.specs.CommandLine.{OptionNames, by_width, wide_row, run_row, text_row, generate_row, generate_by, serve_row, is_plain}
+use Rattle.spec_program.specs.CommandLine.{given_or, workers_of, workers_given, links_of, links_given}
+use Rattle.spec_program.specs.CommandLine.{places_of, places_given, form_of, form_given, applied}
+use Rattle.spec_program.specs.CommandLine.{OptionNames, by_width, wide_row, run_row, text_row, generate_row, serve_row, is_plain}
 use Rattle.spec_program.specs.CommandLine.{seed_of, row_count_of, column_count_of}
 use Rattle.std.proofs.Math.Seq.{take-length}
 use Rattle.spec_program.specs.CommandLine.{command_line_of}
@@ -31,7 +33,7 @@ use Rattle.spec_text.specs.Words.{same}
 use Rattle.spec_program.specs.declared.command_line.TextCommand.TheVariants as text
 use Rattle.lp_command_line.specs.declared.line.Command.{Command}
 use Rattle.lp_command_line.specs.declared.line.Command.TheVariants as command
-use Rattle.lp_command_line.specs.Words.{value_in, are_in, range_in, serve_in, number_row}
+use Rattle.lp_command_line.specs.Words.{value_in, workers_in, links_in, places_in, form_in, are_in, range_in, serve_in, number_row}
 use Rattle.lp_command_line.proofs.OptionLemmas.{value-look_up, options-some, options-none}
 
 -- ---- options after plain words
@@ -64,6 +66,28 @@ module _ (row : Row) (words : List (List ℕ)) (enough : row.plain words ≤ len
       (in_pairs row.switches (drop (row.plain words) words) ≡ Some options)
   taken e = let o = options-some row.names row.switches (drop (row.plain words) words) e in (o.0, asks ∙ ap asked o.1, o.2)
 
+-- ---- what options give, as pairs and as words
+
+module _ (words : List (List ℕ)) (options : Options) where
+  -- the options give the form that the words of which they are pairs give
+  form-pairs : (switches : OptionNames) → in_pairs switches words ≡ Some options →
+      form_given options ≡ form_in switches words
+  form-pairs switches pairs =
+      ap (given_or Free form_of) (sym (value-look_up switches (codes "--form") words options pairs))
+
+  module _ (pairs : in_pairs [] words ≡ Some options) where
+    -- the options give the number of workers that the words of which they are pairs give
+    workers-pairs : workers_given options ≡ workers_in words
+    workers-pairs = ap (given_or 1 workers_of) (sym (value-look_up [] (codes "--workers") words options pairs))
+
+    -- the options give the number of links that the words of which they are pairs give
+    links-pairs : links_given options ≡ links_in words
+    links-pairs = ap (given_or 1 links_of) (sym (value-look_up [] (codes "--each") words options pairs))
+
+    -- the options give the number of places that the words of which they are pairs give
+    places-pairs : places_given options ≡ places_in words
+    places-pairs = ap (given_or 256 places_of) (sym (value-look_up [] (codes "--places") words options pairs))
+
 -- ---- a script, or a text: no plain words
 
 module _ (words : List (List ℕ)) where
@@ -78,17 +102,13 @@ module _ (words : List (List ℕ)) where
   -- words behind `run` that are its options ask for a run with the numbers of workers and places that they give, if
   -- these are right
   pub asks-run : (workers places : Option ℕ) → are_in run_row.names run_row.switches words ≡ true →
-      workers_given (value_in [] (codes "--workers") words) ≡ workers →
-      places_given (value_in [] (codes "--places") words) ≡ places → asked_by words run_row ≡ run_by workers places
+      workers_in words ≡ workers → places_in words ≡ places →
+      asked_by words run_row ≡ applied (option_map Run workers) places
   asks-run workers places e are_workers are_places =
       let t = taken run_row words at_once e in
       t.1
-      ∙ ap (λ v. run_by (workers_given v) (places_given (look_up (codes "--places") t.0)))
-      (sym (value-look_up [] (codes "--workers") words t.0 t.2))
-      ∙ ap (λ v. run_by (workers_given (value_in [] (codes "--workers") words)) (places_given v))
-      (sym (value-look_up [] (codes "--places") words t.0 t.2))
-      ∙ ap (λ w. run_by w (places_given (value_in [] (codes "--places") words))) are_workers
-      ∙ ap (run_by workers) are_places
+      ∙ ap (λ w. applied (option_map Run w) (places_given t.0)) (workers-pairs words t.0 t.2 ∙ are_workers)
+      ∙ ap (applied (option_map Run workers)) (places-pairs words t.0 t.2 ∙ are_places)
 
   module _ (command : ExactTextCommand) where
     -- words behind a command on a text that are not its options ask nothing
@@ -97,13 +117,10 @@ module _ (words : List (List ℕ)) where
 
     -- words behind a command on a text that are its options ask for it in the form that they give, if that is right
     pub asks-text : (style : Option Style) → are_in (text_row command).names (text_row command).switches words ≡ true →
-        form_given (value_in [] (codes "--form") words) ≡ style →
-        asked_by words (text_row command) ≡ option_map (Read command) style
+        form_in [] words ≡ style → asked_by words (text_row command) ≡ option_map (Read command) style
     asks-text style e is_style =
         let t = taken (text_row command) words at_once e in
-        t.1
-        ∙ ap (λ v. option_map (Read command) (form_given v)) (sym (value-look_up [] (codes "--form") words t.0 t.2))
-        ∙ ap (option_map (Read command)) is_style
+        t.1 ∙ ap (option_map (Read command)) (form-pairs words t.0 [] t.2 ∙ is_style)
 
 -- ---- a text, with numbers of any width where that is asked for
 
@@ -120,17 +137,16 @@ module _ (words : List (List ℕ)) (narrow wide : ExactTextCommand) where
   -- words behind a command that may take `--wide` that are its options ask for it in the form and the width that they
   -- give, if the form is right
   pub asks-wide : (style : Option Style) → are_in (wide_row narrow wide).names switches words ≡ true →
-      form_given (value_in switches (codes "--form") words) ≡ style →
+      form_in switches words ≡ style →
       asked_by words (wide_row narrow wide)
       ≡ option_map (Read (by_width narrow wide (value_in switches (codes "--wide") words))) style
   asks-wide style e is_style =
       let t = taken (wide_row narrow wide) words (at_once words) e in
       t.1
-      ∙ ap (λ v. option_map (Read (by_width narrow wide (look_up (codes "--wide") t.0))) (form_given v))
-      (sym (value-look_up switches (codes "--form") words t.0 t.2))
-      ∙ ap (λ v. option_map (Read (by_width narrow wide v)) (form_given (value_in switches (codes "--form") words)))
+      ∙ ap (option_map (Read (by_width narrow wide (look_up (codes "--wide") t.0))))
+      (form-pairs words t.0 switches t.2 ∙ is_style)
+      ∙ ap (λ v. option_map (Read (by_width narrow wide v)) style)
       (sym (value-look_up switches (codes "--wide") words t.0 t.2))
-      ∙ ap (option_map (Read (by_width narrow wide (value_in switches (codes "--wide") words)))) is_style
 
 -- ---- a model that is made: three plain words
 
@@ -167,13 +183,13 @@ module _ {X : Type 0} (f : X → List ℕ) (behind : List X) (a b c : List ℕ) 
 -- by what is read of them
 pub asks-generate : (words : List (List ℕ)) (a b c : List ℕ) (seed rows columns : Option ℕ) →
     words ≡ a ∷ b ∷ c ∷ [] → seed_of a ≡ seed → row_count_of b ≡ rows → column_count_of c ≡ columns →
-    asked_by words generate_row ≡ generate_by seed rows columns
+    asked_by words generate_row ≡ applied (applied (option_map Generate seed) rows) columns
 unfolding given_in options_in
 asks-generate words a b c seed rows columns three is_seed are_rows are_columns =
     ap (λ (ws : List (List ℕ)). asked_by ws generate_row) three
-    ∙ ap (λ s. generate_by s (row_count_of b) (column_count_of c)) is_seed
-    ∙ ap (λ r. generate_by seed r (column_count_of c)) are_rows
-    ∙ ap (generate_by seed rows) are_columns
+    ∙ ap (λ s. applied (applied (option_map Generate s) (row_count_of b)) (column_count_of c)) is_seed
+    ∙ ap (λ r. applied (applied (option_map Generate seed) r) (column_count_of c)) are_rows
+    ∙ ap (applied (applied (option_map Generate seed) rows)) are_columns
 
 -- ---- a server: an address, and options
 
@@ -206,8 +222,7 @@ module _ (address : List ℕ) (words all : List (List ℕ)) (cut : all ≡ addre
   abbrev by_address : Options → Bool → Option ExactLine
   by_address options test =
       cond test
-      (serve_by (workers_given (look_up (codes "--workers") options))
-      (links_given (look_up (codes "--each") options)) (places_given (look_up (codes "--places") options)))
+      (applied (applied (option_map Serve (workers_given options)) (links_given options)) (places_given options))
       None
 
   -- words behind `serve` whose first one may be no address ask nothing
@@ -231,11 +246,7 @@ module _ (address : List ℕ) (words all : List (List ℕ)) (cut : all ≡ addre
       same_line
       ∙ t.1
       ∙ ap (by_address t.0) holds
-      ∙ rw (
-        sym (value-look_up [] (codes "--workers") words t.0 t.2),
-        sym (value-look_up [] (codes "--each") words t.0 t.2),
-        sym (value-look_up [] (codes "--places") words t.0 t.2),
-      ) refl
+      ∙ rw (workers-pairs words t.0 t.2, links-pairs words t.0 t.2, places-pairs words t.0 t.2) refl
 
 -- ---- a range of one number: which, a name, and options
 
@@ -270,12 +281,19 @@ module _ (what name : List ℕ) (words all : List (List ℕ)) (cut : all ≡ wha
 
   -- the range of one number in this form, with the name where the test says that it is one; else none
   abbrev by_name : Option Style → Option Moved → Bool → Option ExactLine
-  by_name style moved test = range_by moved (cond test (Some name) None) style
+  by_name style moved test =
+      applied (option_map Read (applied (option_map text.Range moved) (cond test (Some name) None))) style
 
   -- without a name no range of one number is asked
   no_place : (style : Option Style) (moved : Option Moved) → by_name style moved false ≡ None
   no_place style None = refl
   no_place style (Some w) = refl
+
+  -- with the name, the range of one number is asked where its kind is given, and the form
+  in_place : (style : Option Style) (moved : Option Moved) →
+      by_name style moved true ≡ option_and_then (λ w. option_map (Read (text.Range w name)) style) moved
+  in_place style None = refl
+  in_place style (Some w) = refl
 
   -- words behind `range` whose second one may be no name ask for the range of no number
   pub no-name : is_plain name ≡ false → asked_by all number_row ≡ None
@@ -284,8 +302,7 @@ module _ (what name : List ℕ) (words all : List (List ℕ)) (cut : all ≡ wha
       each : (options : Option Options) → asked number_row (what ∷ name ∷ words) two_more options ≡ None
       each None = refl
       each (Some options) =
-          ap (by_name (form_given (look_up (codes "--form") options)) (moved_of what)) e
-          ∙ no_place (form_given (look_up (codes "--form") options)) (moved_of what)
+          ap (by_name (form_given options) (moved_of what)) e ∙ no_place (form_given options) (moved_of what)
 
   -- a kind and a name behind `range`, with words behind them that are not its options, ask for the range of no number
   pub number-refused : are_in number_row.names number_row.switches words ≡ false → asked_by all number_row ≡ None
@@ -299,9 +316,10 @@ module _ (what name : List ℕ) (words all : List (List ℕ)) (cut : all ≡ wha
       let t = taken number_row (what ∷ name ∷ words) two_more e in
       same_number
       ∙ t.1
-      ∙ ap (by_name (form_given (look_up (codes "--form") t.0)) (moved_of what)) holds
-      ∙ ap (λ v. by_name (form_given v) (moved_of what) true) (sym (value-look_up [] (codes "--form") words t.0 t.2))
-      ∙ ap (λ m. by_name (form_given (value_in [] (codes "--form") words)) m true) is_moved
+      ∙ ap (by_name (form_given t.0) (moved_of what)) holds
+      ∙ ap (λ style. by_name style (moved_of what) true) (form-pairs words t.0 [] t.2)
+      ∙ ap (λ m. by_name (form_in [] words) m true) is_moved
+      ∙ in_place (form_in [] words) moved
 
 -- ---- a range of all numbers, or of one
 
@@ -343,8 +361,7 @@ module _ (what : List ℕ) (words all : List (List ℕ)) (cut : all ≡ what ∷
           asked all_row (what ∷ words) more_words options ≡ asked (text_row text.RangeAll) words (at_once words) options
       each None = refl
       each (Some options) =
-          ap (λ (t : Bool).
-          cond t (option_map (Read text.RangeAll) (form_given (look_up (codes "--form") options))) None) e
+          ap (λ (t : Bool). cond t (option_map (Read text.RangeAll) (form_given options)) None) e
 
   -- where the first word behind `range` is not `all`, the words ask what they ask by the row of one number's range
   pub asks-one : is_all what ≡ false → asked_by all range_row ≡ asked_by all number_row

@@ -9,19 +9,18 @@ use Rattle.std.specs.Prelude.{codes, option_map, option_and_then, is_some, is_no
 use Rattle.std.specs.Option.{option_or}
 use denote.Ref.{Bor}
 use Rattle.spec_mps.specs.Shapes.{look_up}
-use Rattle.spec_program.specs.declared.command_line.CommandLine.TheVariants.{Read}
+use Rattle.spec_program.specs.declared.command_line.CommandLine.TheVariants.{Run, Read, Generate, Serve}
 use Rattle.spec_program.specs.declared.command_line.Moved.{Moved}
 use Rattle.spec_program.specs.declared.command_line.TextCommand.TheVariants.{Range, RangeAll}
 use Rattle.spec_program.specs.Spelled.{spelled_text}
-use Rattle.spec_program.specs.CommandLine.{ExactTextCommand, moved_of, is_all, range_row}
+use Rattle.spec_program.specs.CommandLine.{ExactLine, ExactTextCommand, moved_of, is_all, range_row}
 use Rattle.spec_program.specs.CommandLine.{Word, OptionNames, given_or, given_in, asked_by, is_one_of, is_plain}
-use Rattle.spec_program.specs.CommandLine.{usual_workers, workers_of, workers_given, usual_links, links_of, links_given}
-use Rattle.spec_program.specs.CommandLine.{usual_places, places_of, places_given, form_of, form_given}
-use Rattle.spec_program.specs.CommandLine.{seed_of, row_count_of, column_count_of, run_by, serve_by, generate_by}
+use Rattle.spec_program.specs.CommandLine.{workers_of, links_of, places_of, form_of}
+use Rattle.spec_program.specs.CommandLine.{seed_of, row_count_of, column_count_of, applied}
 use Rattle.spec_program.specs.CommandLine.{run_row, text_row, by_width, wide_row, generate_row, serve_row, command_line_of}
 use Rattle.spec_mps.specs.declared.style.Style.{Style}
 use Rattle.spec_mps.specs.declared.style.Style.TheVariants.{Free}
-use Rattle.lp_command_line.specs.Words.{value_in, is_new_option, are_in, wide_switch, number_row}
+use Rattle.lp_command_line.specs.Words.{value_in, workers_in, links_in, places_in, form_in, is_new_option, are_in, wide_switch, number_row}
 use Rattle.lp_command_line.specs.declared.fault.Plain.{Plain}
 use Rattle.lp_command_line.specs.declared.fault.Plain.TheVariants.{Address, Number, Name, Seed, Rows, Columns}
 use Rattle.lp_command_line.specs.declared.fault.WordFault.{WordFault}
@@ -126,43 +125,28 @@ no-plain_fault plain word false = refl
 -- ---- each command
 
 module _ (words : List Word) where
-  -- the number of workers that the words give, 1 without `--workers`; none for a wrong value
-  abbrev workers : Option ℕ
-  workers = workers_given (value_in [] (codes "--workers") words)
-
-  -- the number of places that the words give, 256 without `--places`; none for a wrong value
-  abbrev places : Option ℕ
-  places = places_given (value_in [] (codes "--places") words)
-
-  -- the number of links that the words give, 1 without `--each`; none for a wrong value
-  abbrev links : Option ℕ
-  links = links_given (value_in [] (codes "--each") words)
-
-  -- the form of texts that the words give, free without `--form`; none for a wrong value
-  abbrev form : OptionNames → Option Style
-  form switches = form_given (value_in switches (codes "--form") words)
-
   -- the value of `--workers` has no fault exactly where the words give a number of workers
-  no-workers_fault : is_none (workers_fault words) ≡ is_some workers
-  no-workers_fault = no-value_fault usual_workers workers_of [] (codes "--workers") words
+  no-workers_fault : is_none (workers_fault words) ≡ is_some (workers_in words)
+  no-workers_fault = no-value_fault 1 workers_of [] (codes "--workers") words
 
   -- the value of `--places` has no fault exactly where the words give a number of places
-  no-places_fault : is_none (places_fault words) ≡ is_some places
-  no-places_fault = no-value_fault usual_places places_of [] (codes "--places") words
+  no-places_fault : is_none (places_fault words) ≡ is_some (places_in words)
+  no-places_fault = no-value_fault 256 places_of [] (codes "--places") words
 
   -- the value of `--each` has no fault exactly where the words give a number of links
-  no-links_fault : is_none (links_fault words) ≡ is_some links
-  no-links_fault = no-value_fault usual_links links_of [] (codes "--each") words
+  no-links_fault : is_none (links_fault words) ≡ is_some (links_in words)
+  no-links_fault = no-value_fault 1 links_of [] (codes "--each") words
 
   -- the value of `--form` has no fault exactly where the words give a form of texts
-  no-form_fault : (switches : OptionNames) → is_none (form_fault switches words) ≡ is_some (form switches)
+  no-form_fault : (switches : OptionNames) → is_none (form_fault switches words) ≡ is_some (form_in switches words)
   no-form_fault switches = no-value_fault Free form_of switches (codes "--form") words
 
 -- a run is asked exactly where the workers and the places are given
-run_by-some : (w p : Option ℕ) → (is_some w && is_some p) ≡ is_some (run_by w p)
-run_by-some None p = refl
-run_by-some (Some k) None = refl
-run_by-some (Some k) (Some n) = refl
+run-some : (w p : Option ℕ) →
+    (is_some w && is_some p) ≡ is_some {T = ExactLine} (applied (option_map Run w) p)
+run-some None p = refl
+run-some (Some k) None = refl
+run-some (Some k) (Some n) = refl
 
 -- the words behind `run` have no fault exactly where they are a command `run`
 no-run_fault : (words : List Word) → is_none (run_fault words) ≡ is_some (asked_by words run_row)
@@ -173,10 +157,10 @@ no-run_fault words =
     ∙ by (are_in run_row.names run_row.switches words) refl
   where
     by : (t : Bool) → are_in run_row.names run_row.switches words ≡ t →
-        ((t && is_some (workers words)) && is_some (places words)) ≡ is_some (asked_by words run_row)
+        ((t && is_some (workers_in words)) && is_some (places_in words)) ≡ is_some (asked_by words run_row)
     by true e =
-        run_by-some (workers words) (places words)
-        ∙ ap is_some (sym (asks-run words (workers words) (places words) e refl refl))
+        run-some (workers_in words) (places_in words)
+        ∙ ap is_some (sym (asks-run words (workers_in words) (places_in words) e refl refl))
     by false e = ap is_some (sym (run-refused words e))
 
 -- a text command is asked exactly where its form is given
@@ -191,9 +175,9 @@ no-text_fault text words =
     ∙ by (are_in (text_row text).names (text_row text).switches words) refl
   where
     by : (t : Bool) → are_in (text_row text).names (text_row text).switches words ≡ t →
-        (t && is_some (form words [])) ≡ is_some (asked_by words (text_row text))
+        (t && is_some (form_in [] words)) ≡ is_some (asked_by words (text_row text))
     by true e =
-        read-some text (form words []) ∙ ap is_some (sym (asks-text words text (form words []) e refl))
+        read-some text (form_in [] words) ∙ ap is_some (sym (asks-text words text (form_in [] words) e refl))
     by false e = ap is_some (sym (text-refused words text e))
 
 -- the words behind a command with `--wide` or without have no fault exactly where they are such a command
@@ -204,10 +188,10 @@ no-wide_fault narrow wide words =
     ∙ by (are_in (wide_row narrow wide).names wide_switch words) refl
   where
     by : (t : Bool) → are_in (wide_row narrow wide).names wide_switch words ≡ t →
-        (t && is_some (form words wide_switch)) ≡ is_some (asked_by words (wide_row narrow wide))
+        (t && is_some (form_in wide_switch words)) ≡ is_some (asked_by words (wide_row narrow wide))
     by true e =
-        read-some (by_width narrow wide (value_in wide_switch (codes "--wide") words)) (form words wide_switch)
-        ∙ ap is_some (sym (asks-wide words narrow wide (form words wide_switch) e refl))
+        read-some (by_width narrow wide (value_in wide_switch (codes "--wide") words)) (form_in wide_switch words)
+        ∙ ap is_some (sym (asks-wide words narrow wide (form_in wide_switch words) e refl))
     by false e = ap is_some (sym (wide-refused words narrow wide e))
 
 module _ (x y : Bool) where
@@ -247,16 +231,16 @@ no-number_fault (what ∷ name ∷ words) =
     ∙ by (is_plain name) (are_in number_row.names number_row.switches words) refl refl
   where
     by : (a t : Bool) → is_plain name ≡ a → are_in number_row.names number_row.switches words ≡ t →
-        ((is_some (moved_of what) && a) && (t && is_some (form words [])))
+        ((is_some (moved_of what) && a) && (t && is_some (form_in [] words)))
         ≡ is_some (asked_by (what ∷ name ∷ words) number_row)
     by false t h e =
-        no_name (is_some (moved_of what)) (t && is_some (form words []))
+        no_name (is_some (moved_of what)) (t && is_some (form_in [] words))
         ∙ ap is_some (sym (no-name what name words (what ∷ name ∷ words) refl h))
     by true false h e =
-        no_options (is_some (moved_of what)) (is_some (form words []))
+        no_options (is_some (moved_of what)) (is_some (form_in [] words))
         ∙ ap is_some (sym (number-refused what name words (what ∷ name ∷ words) refl e))
     by true true h e =
-        range-some name (moved_of what) (form words [])
+        range-some name (moved_of what) (form_in [] words)
         ∙ ap is_some (sym (asks-number what name words (what ∷ name ∷ words) refl (moved_of what) h e refl))
 
 -- the words behind `range` have no fault exactly where they are a command `range`
@@ -271,12 +255,13 @@ no-range_fault (what ∷ words) = by (is_all what) refl
     by false e = no-number_fault (what ∷ words) ∙ ap is_some (sym (asks-one what words (what ∷ words) refl e))
 
 -- a model is asked of the generator exactly where the seed, the rows and the columns are given
-generate_by-some : (seed rows columns : Option ℕ) →
-    (((is_some seed && is_some rows) && is_some columns) && true) ≡ is_some (generate_by seed rows columns)
-generate_by-some None rows columns = refl
-generate_by-some (Some s) None columns = refl
-generate_by-some (Some s) (Some r) None = refl
-generate_by-some (Some s) (Some r) (Some c) = refl
+generate-some : (seed rows columns : Option ℕ) →
+    (((is_some seed && is_some rows) && is_some columns) && true)
+    ≡ is_some {T = ExactLine} (applied (applied (option_map Generate seed) rows) columns)
+generate-some None rows columns = refl
+generate-some (Some s) None columns = refl
+generate-some (Some s) (Some r) None = refl
+generate-some (Some s) (Some r) (Some c) = refl
 
 -- where there are no names of options, one or more words are no options
 no-option : (word : Word) (words : List Word) → are_in [] [] (word ∷ words) ≡ false
@@ -296,7 +281,7 @@ no-generate_fault (seed ∷ rows ∷ columns ∷ []) =
     (no-plain_fault Rows rows (is_some (row_count_of rows))))
     (no-plain_fault Columns columns (is_some (column_count_of columns))))
     refl
-    ∙ generate_by-some (seed_of seed) (row_count_of rows) (column_count_of columns)
+    ∙ generate-some (seed_of seed) (row_count_of rows) (column_count_of columns)
     ∙ ap is_some (sym (asks-generate (seed ∷ rows ∷ columns ∷ []) seed rows columns (seed_of seed) (row_count_of rows)
     (column_count_of columns) refl refl refl refl))
 no-generate_fault (seed ∷ rows ∷ columns ∷ word ∷ words) =
@@ -306,11 +291,13 @@ no-generate_fault (seed ∷ rows ∷ columns ∷ word ∷ words) =
     ∙ ap is_some (sym (refused generate_row (seed ∷ rows ∷ columns ∷ word ∷ words) (omega arith) none))
 
 -- a server is asked exactly where the workers, the connections and the places are given
-serve_by-some : (w l p : Option ℕ) → ((is_some w && is_some l) && is_some p) ≡ is_some (serve_by w l p)
-serve_by-some None l p = refl
-serve_by-some (Some k) None p = refl
-serve_by-some (Some k) (Some c) None = refl
-serve_by-some (Some k) (Some c) (Some n) = refl
+serve-some : (w l p : Option ℕ) →
+    ((is_some w && is_some l) && is_some p)
+    ≡ is_some {T = ExactLine} (applied (applied (option_map Serve w) l) p)
+serve-some None l p = refl
+serve-some (Some k) None p = refl
+serve-some (Some k) (Some c) None = refl
+serve-some (Some k) (Some c) (Some n) = refl
 
 -- the words behind `serve` have no fault exactly where they are a command `serve`
 no-serve_fault : (words : List Word) → is_none (serve_fault words) ≡ is_some (asked_by words serve_row)
@@ -327,12 +314,12 @@ no-serve_fault (address ∷ words) =
     ∙ by (is_plain address) (are_in serve_row.names serve_row.switches words) refl refl
   where
     by : (a t : Bool) → is_plain address ≡ a → are_in serve_row.names serve_row.switches words ≡ t →
-        ((((a && t) && is_some (workers words)) && is_some (links words)) && is_some (places words))
+        ((((a && t) && is_some (workers_in words)) && is_some (links_in words)) && is_some (places_in words))
         ≡ is_some (asked_by (address ∷ words) serve_row)
     by false t h e = ap is_some (sym (no-address address words (address ∷ words) refl h))
     by true false h e = ap is_some (sym (serve-refused address words (address ∷ words) refl e))
     by true true h e =
-        serve_by-some (workers words) (links words) (places words)
+        serve-some (workers_in words) (links_in words) (places_in words)
         ∙ ap is_some (sym (asks-serve address words (address ∷ words) refl h e))
 
 -- by whether the first word is that for all numbers

@@ -6,9 +6,8 @@ use denote.Ref.{Bor}
 use Rattle.std.specs.Option.{option_or}
 use Rattle.spec_mps.specs.Shapes.{look_up}
 use Rattle.spec_program.specs.CommandLine.{Word, OptionNames, is_one_of, is_plain, is_all}
-use Rattle.spec_program.specs.CommandLine.{workers_given, links_given, places_given, form_given}
 use Rattle.spec_program.specs.CommandLine.{seed_of, row_count_of, column_count_of, moved_of}
-use Rattle.lp_command_line.specs.Words.{value_in, wide_switch}
+use Rattle.lp_command_line.specs.Words.{value_in, workers_in, links_in, places_in, form_in, wide_switch}
 use Rattle.lp_command_line.specs.declared.fault.Plain.{Plain}
 use Rattle.lp_command_line.specs.declared.fault.Plain.TheVariants.{Address, Number, Name, Seed, Rows, Columns}
 use Rattle.lp_command_line.specs.declared.fault.WordFault.{WordFault}
@@ -72,20 +71,19 @@ plain_fault plain word false = Some (NotPlain plain word)
 
 -- the fault of the value behind `--workers`, if it is no number of workers
 abbrev pub workers_fault : List Word → Option Fault
-workers_fault words = value_fault [] (codes "--workers") words (is_some (workers_given (value_in [] (codes "--workers") words)))
+workers_fault words = value_fault [] (codes "--workers") words (is_some (workers_in words))
 
 -- the fault of the value behind `--each`, if it is no number of links
 abbrev pub links_fault : List Word → Option Fault
-links_fault words = value_fault [] (codes "--each") words (is_some (links_given (value_in [] (codes "--each") words)))
+links_fault words = value_fault [] (codes "--each") words (is_some (links_in words))
 
 -- the fault of the value behind `--places`, if it is no number of places
 abbrev pub places_fault : List Word → Option Fault
-places_fault words = value_fault [] (codes "--places") words (is_some (places_given (value_in [] (codes "--places") words)))
+places_fault words = value_fault [] (codes "--places") words (is_some (places_in words))
 
 -- the fault of the value behind `--form`, if it names no form of texts
 abbrev pub form_fault : OptionNames → List Word → Option Fault
-form_fault switches words =
-    value_fault switches (codes "--form") words (is_some (form_given (value_in switches (codes "--form") words)))
+form_fault switches words = value_fault switches (codes "--form") words (is_some (form_in switches words))
 
 -- ---- the words behind each command's word
 

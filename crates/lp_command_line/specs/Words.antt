@@ -4,11 +4,13 @@ use Rattle.std.specs.Prelude.{option_map}
 use Rattle.std.specs.Prelude.{codes, string_bytes, if◌then◌else◌}
 use Rattle.spec_text.specs.Words.{same}
 use denote.Ref.{Bor}
-use Rattle.spec_program.specs.declared.command_line.CommandLine.TheVariants.{Read}
+use Rattle.spec_mps.specs.declared.style.Style.{Style}
+use Rattle.spec_mps.specs.declared.style.Style.TheVariants.{Free}
+use Rattle.spec_program.specs.declared.command_line.CommandLine.TheVariants.{Read, Serve}
 use Rattle.spec_program.specs.declared.command_line.Moved.{Moved}
 use Rattle.spec_program.specs.declared.command_line.TextCommand.TheVariants.{Range}
 use Rattle.spec_program.specs.CommandLine.{Address, ExactLine, OptionNames, Row, is_one_of, range_row}
-use Rattle.spec_program.specs.CommandLine.{serve_by, workers_given, links_given, places_given, form_given}
+use Rattle.spec_program.specs.CommandLine.{given_or, workers_of, links_of, places_of, form_of, applied}
 use Rattle.lp_command_line.specs.declared.listening.Serving.{Serving}
 
 -- the texts of names that the code holds behind references
@@ -42,6 +44,23 @@ value_in switches name (option ∷ value ∷ words) =
     if is_one_of option switches
     then (if same name option then Some [] else value_in switches name (value ∷ words))
     else (if same name option then Some value else value_in switches name words)
+
+-- the number of workers that these words give by `--workers`, or none for a wrong value; 1 where it is not there
+abbrev pub workers_in : List (List ℕ) → Option ℕ
+workers_in words = given_or 1 workers_of (value_in [] (codes "--workers") words)
+
+-- the number of links of each worker that these words give by `--each`, or none for a wrong value; 1 where it is not
+-- there
+abbrev pub links_in : List (List ℕ) → Option ℕ
+links_in words = given_or 1 links_of (value_in [] (codes "--each") words)
+
+-- the number of places that these words give by `--places`, or none for a wrong value; 256 where it is not there
+abbrev pub places_in : List (List ℕ) → Option ℕ
+places_in words = given_or 256 places_of (value_in [] (codes "--places") words)
+
+-- the form of texts that these words give by `--form`, or none for a wrong value; the free one where it is not there
+abbrev pub form_in : OptionNames → List (List ℕ) → Option Style
+form_in switches words = given_or Free form_of (value_in switches (codes "--form") words)
 
 -- whether an option has one of these names, and is not given again: `again` is its value among the words behind it, or
 -- none
@@ -81,10 +100,9 @@ number_row = record {
 
 -- the command line for the range of one number, by these options; none where the form behind --form is wrong
 abbrev pub range_in : Moved → List ℕ → List (List ℕ) → Option ExactLine
-range_in moved name options = option_map (Read (Range moved name)) (form_given (value_in [] (codes "--form") options))
+range_in moved name options = option_map (Read (Range moved name)) (form_in [] options)
 
 -- the command line of a server, by these options; none where one of their values is wrong
 abbrev pub serve_in : List (List ℕ) → Option ExactLine
 serve_in options =
-    serve_by (workers_given (value_in [] (codes "--workers") options)) (links_given (value_in [] (codes "--each") options))
-    (places_given (value_in [] (codes "--places") options))
+    applied (applied (option_map Serve (workers_in options)) (links_in options)) (places_in options)

@@ -1,13 +1,15 @@
 // The words of a command line.
-ghost use Rattle.std.specs.Prelude.{◌≡◌, map, length, codes, option_copied, string_bytes};
+ghost use Rattle.std.specs.Prelude.{◌≡◌, map, length, codes, option_copied, option_map, string_bytes};
 ghost use Rattle.std.specs.Prelude.{MatchOption, IfSome, ◌<◌, Some, None, []};
 ghost use Rattle.std.specs.List.{list_any};
 ghost use Rattle.spec_text.specs.Words.{same};
 ghost use Rattle.spec_program.specs.CommandLine.{run_row, text_row, wide_row, by_width, range_row, generate_row};
-ghost use Rattle.spec_program.specs.CommandLine.{serve_row, asked_by};
+ghost use Rattle.spec_program.specs.CommandLine.{serve_row, asked_by, applied};
 ghost use Rattle.spec_program.specs.CommandLine as command_lines;
+ghost use Rattle.spec_program.specs.declared.command_line.CommandLine.TheVariants.{Generate};
 ghost use Rattle.spec_program.specs.Spelled.{spelled_text, told};
 ghost use Rattle.lp_command_line.specs.Words.{bytes_of, first_in, value_in, are_in, wide_switch, range_in, serve_in, number_row};
+ghost use Rattle.lp_command_line.specs.Words as cut_words;
 
 use lp_base::{are_same, look_up};
 use lp_line::number_to;
@@ -141,7 +143,7 @@ fn are_options(words: &[String], names: &[&str], switches: &[&str]) -> bool
 /// The number of workers that the options give, 1 where they give none. None where the value is wrong.
 #[tactic(auto, unfolding(spec_program::specs::CommandLine::workers_of))]
 pub(crate) fn workers_in(options: &[String]) -> Option<u32>
-    ensures { result ≡ command_lines.workers_given (value_in [] (codes "--workers") (map string_bytes options.now)) }
+    ensures { result ≡ cut_words.workers_in (map string_bytes options.now) }
 {
     match value_of(options, b"--workers", &[]) {
         Some(number) => number_to(16, 2, number),
@@ -152,7 +154,7 @@ pub(crate) fn workers_in(options: &[String]) -> Option<u32>
 /// The number of places that the options give, 256 where they give none. None where the value is wrong.
 #[tactic(auto, unfolding(spec_program::specs::CommandLine::places_of))]
 pub(crate) fn places_in(options: &[String]) -> Option<u32>
-    ensures { result ≡ command_lines.places_given (value_in [] (codes "--places") (map string_bytes options.now)) }
+    ensures { result ≡ cut_words.places_in (map string_bytes options.now) }
 {
     match value_of(options, b"--places", &[]) {
         Some(number) => number_to(1024, 7, number),
@@ -163,7 +165,7 @@ pub(crate) fn places_in(options: &[String]) -> Option<u32>
 /// The number of links of each worker that the options give, 1 where they give none. None where the value is wrong.
 #[tactic(auto, unfolding(spec_program::specs::CommandLine::links_of))]
 pub(crate) fn links_in(options: &[String]) -> Option<u32>
-    ensures { result ≡ command_lines.links_given (value_in [] (codes "--each") (map string_bytes options.now)) }
+    ensures { result ≡ cut_words.links_in (map string_bytes options.now) }
 {
     match value_of(options, b"--each", &[]) {
         Some(number) => number_to(1000, 4, number),
@@ -173,8 +175,7 @@ pub(crate) fn links_in(options: &[String]) -> Option<u32>
 
 /// The form of the text that the options give, free where they give none. None where the value is wrong.
 pub(crate) fn form_in(options: &[String], switches: &[&str]) -> Option<Style>
-    ensures { result ≡ command_lines.form_given
-        (value_in (bytes_of switches.now) (codes "--form") (map string_bytes options.now)) }
+    ensures { result ≡ cut_words.form_in (bytes_of switches.now) (map string_bytes options.now) }
 {
     match value_of(options, b"--form", switches) {
         Some(form) => look_up(form, &FORMS),
@@ -319,7 +320,7 @@ fn generate_by<'a>(
     rows: Option<u32>,
     columns: Option<u32>,
 ) -> Option<CommandLine<&'a [u8]>>
-    ensures { told result ≡ command_lines.generate_by seed rows columns }
+    ensures { told result ≡ applied (applied (option_map Generate seed) rows) columns }
 {
     let seed = seed?;
     let rows = rows?;

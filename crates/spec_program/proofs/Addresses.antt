@@ -6,7 +6,7 @@ use Rattle.spec_text.specs.Words.{same}
 use Rattle.spec_mps.specs.declared.style.Style.{Style}
 use Rattle.spec_mps.specs.Shapes.{look_up}
 use Rattle.spec_program.specs.CommandLine.{Word, ExactLine, ExactTextCommand, Given, given_in, form_given, workers_given, places_given, seed_of}
-use Rattle.spec_program.specs.CommandLine.{row_count_of, column_count_of, Row, run_by, run_row, text_row, generate_by}
+use Rattle.spec_program.specs.CommandLine.{row_count_of, column_count_of, Row, applied, run_row, text_row}
 use Rattle.spec_program.specs.CommandLine.{generate_with, generate_row, serve_row, asked_by, command_line_of}
 use Rattle.spec_program.specs.CommandLine.{served_at, address_of, range_row, by_width, wide_row}
 use Rattle.spec_program.specs.declared.command_line.CommandLine.TheVariants.{Run, Read, Generate, Serve}
@@ -33,7 +33,8 @@ asked row words command none e = by (given_in (row.plain words) row.names row.sw
     by (Some given) h = none given h
 
 -- the command `run` starts no server
-runs : (workers places : Option ℕ) (command : ExactLine) → run_by workers places ≡ Some command → IsNoServer command
+runs : (workers places : Option ℕ) (command : ExactLine) →
+    applied (option_map Run workers) places ≡ Some command → IsNoServer command
 runs None places command e = absurd (none_is_not command e)
 runs (Some k) None command e = absurd (none_is_not command e)
 runs (Some k) (Some n) command e = let is : Run k n ≡ command = cc in subst IsNoServer is tt
@@ -45,8 +46,8 @@ reads text None command e = absurd (none_is_not command e)
 reads text (Some style) command e = let is : Read text style ≡ command = cc in subst IsNoServer is tt
 
 -- the command `gen` with its numbers starts no server
-makes_by : (seed rows columns : Option ℕ) (command : ExactLine) → generate_by seed rows columns ≡ Some command →
-    IsNoServer command
+makes_by : (seed rows columns : Option ℕ) (command : ExactLine) →
+    applied (applied (option_map Generate seed) rows) columns ≡ Some command → IsNoServer command
 makes_by None rows columns command e = absurd (none_is_not command e)
 makes_by (Some s) None columns command e = absurd (none_is_not command e)
 makes_by (Some s) (Some n) None command e = absurd (none_is_not command e)
@@ -81,27 +82,23 @@ alone word command e =
     by : (r s c b p i a g v : Bool) → option_and_then (asked_by []) (row_of r s c b p i a g v) ≡ Some command →
         IsNoServer command
     by true s c b p i a g v h =
-        asked run_row [] command
-        (λ given. runs (workers_given (look_up (codes "--workers") given.options))
-        (places_given (look_up (codes "--places") given.options)) command) h
+        asked run_row [] command (λ given. runs (workers_given given.options) (places_given given.options) command) h
     by false true c b p i a g v h =
         asked (wide_row Solve SolveWide) [] command
         (λ given. reads (by_width Solve SolveWide (look_up (codes "--wide") given.options))
-        (form_given (look_up (codes "--form") given.options)) command) h
+        (form_given given.options) command) h
     by false false true b p i a g v h =
         asked (wide_row Check CheckWide) [] command
         (λ given. reads (by_width Check CheckWide (look_up (codes "--wide") given.options))
-        (form_given (look_up (codes "--form") given.options)) command) h
+        (form_given given.options) command) h
     by false false false true p i a g v h =
         asked (wide_row Basis BasisWide) [] command
         (λ given. reads (by_width Basis BasisWide (look_up (codes "--wide") given.options))
-        (form_given (look_up (codes "--form") given.options)) command) h
+        (form_given given.options) command) h
     by false false false false true i a g v h =
-        asked (text_row Presolve) [] command
-        (λ given. reads Presolve (form_given (look_up (codes "--form") given.options)) command) h
+        asked (text_row Presolve) [] command (λ given. reads Presolve (form_given given.options) command) h
     by false false false false false true a g v h =
-        asked (text_row Iis) [] command
-        (λ given. reads Iis (form_given (look_up (codes "--form") given.options)) command) h
+        asked (text_row Iis) [] command (λ given. reads Iis (form_given given.options) command) h
     by false false false false false false true g v h = absurd (ranges_nothing command h)
     by false false false false false false false true v h =
         asked generate_row [] command (λ given. makes given.plain command) h

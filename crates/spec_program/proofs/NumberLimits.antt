@@ -13,11 +13,11 @@ use Rattle.spec_mps.specs.NumberText.{spelled_from}
 use Rattle.spec_mps.specs.Shapes.{look_up}
 use Rattle.spec_mps.proofs.DigitLemmas.{spelled_grows}
 use Rattle.spec_server.specs.Command.{is_digit, begins_with_zero, number_to}
-use Rattle.spec_program.specs.CommandLine.{Word, ExactLine, ExactTextCommand, Given, given_in, form_given, workers_of, workers_given, places_of}
-use Rattle.spec_program.specs.CommandLine.{places_given, links_of, links_given, seed_of, row_count_of, column_count_of}
-use Rattle.spec_program.specs.CommandLine.{Options, Row, is_plain, run_by, run_row, text_row, generate_by}
-use Rattle.spec_program.specs.CommandLine.{generate_with, generate_row, serve_by, serve_with, serve_row, asked_by}
-use Rattle.spec_program.specs.CommandLine.{is_all, moved_of, name_of, range_by, range_with, range_row}
+use Rattle.spec_program.specs.CommandLine.{Word, ExactLine, ExactTextCommand, Given, given_in, given_or, form_given, workers_of, workers_given}
+use Rattle.spec_program.specs.CommandLine.{places_of, places_given, links_of, links_given, seed_of, row_count_of, column_count_of}
+use Rattle.spec_program.specs.CommandLine.{Options, Row, is_plain, applied, run_row, text_row}
+use Rattle.spec_program.specs.CommandLine.{generate_with, generate_row, serve_with, serve_row, asked_by}
+use Rattle.spec_program.specs.CommandLine.{is_all, moved_of, name_of, range_with, range_row}
 use Rattle.spec_program.specs.CommandLine.{by_width, wide_row}
 use Rattle.spec_program.specs.CommandLine.{command_line_of}
 use Rattle.spec_program.specs.declared.command_line.CommandLine.TheVariants.{Run, Read, Generate, Serve}
@@ -57,22 +57,31 @@ number-within last digits (b ∷ bs) n e =
     (omega (arith, high, more, same), omega (arith, within, same))
 
 -- a number of workers that is read, or stands in for none given, is within its limits
-workers-within : (given : Option Word) (k : ℕ) → workers_given given ≡ Some k → IsWorkers k
+workers-within : (options : Options) (k : ℕ) → workers_given options ≡ Some k → IsWorkers k
 unfolding workers_of
-workers-within None k e = let same : 1 ≡ k = cc in (omega (arith, same), omega (arith, same))
-workers-within (Some word) k e = number-within 16 2 word k e
+workers-within options k e = by (look_up (codes "--workers") options) e
+  where
+    by : (given : Option Word) → given_or 1 workers_of given ≡ Some k → IsWorkers k
+    by None h = let same : 1 ≡ k = cc in (omega (arith, same), omega (arith, same))
+    by (Some word) h = number-within 16 2 word k h
 
 -- a number of places that is read, or stands in for none given, is within its limits
-places-within : (given : Option Word) (n : ℕ) → places_given given ≡ Some n → IsPlaces n
+places-within : (options : Options) (n : ℕ) → places_given options ≡ Some n → IsPlaces n
 unfolding places_of
-places-within None n e = let same : 256 ≡ n = cc in (omega (arith, same), omega (arith, same))
-places-within (Some word) n e = number-within 1024 7 word n e
+places-within options n e = by (look_up (codes "--places") options) e
+  where
+    by : (given : Option Word) → given_or 256 places_of given ≡ Some n → IsPlaces n
+    by None h = let same : 256 ≡ n = cc in (omega (arith, same), omega (arith, same))
+    by (Some word) h = number-within 1024 7 word n h
 
 -- a number of links that is read, or stands in for none given, is within its limits
-links-within : (given : Option Word) (n : ℕ) → links_given given ≡ Some n → IsLinks n
+links-within : (options : Options) (n : ℕ) → links_given options ≡ Some n → IsLinks n
 unfolding links_of
-links-within None n e = let same : 1 ≡ n = cc in (omega (arith, same), omega (arith, same))
-links-within (Some word) n e = number-within 1000 4 word n e
+links-within options n e = by (look_up (codes "--each") options) e
+  where
+    by : (given : Option Word) → given_or 1 links_of given ≡ Some n → IsLinks n
+    by None h = let same : 1 ≡ n = cc in (omega (arith, same), omega (arith, same))
+    by (Some word) h = number-within 1000 4 word n h
 
 -- a number of rows that is read from a word is at most 256
 rows-within : (word : Word) (n : ℕ) → row_count_of word ≡ Some n → n ≤ 256
@@ -97,22 +106,20 @@ row-fits row words command fits e = by (given_in (row.plain words) row.names row
     by (Some given) h = fits given h
 
 -- where numbers of workers and places are within limits, so are those of the command line `run` with them
-run_by-fits : (workers places : Option ℕ) (command : ExactLine) →
+run-fits_by : (workers places : Option ℕ) (command : ExactLine) →
     ((k : ℕ) → workers ≡ Some k → IsWorkers k) → ((n : ℕ) → places ≡ Some n → IsPlaces n) →
-    run_by workers places ≡ Some command → Fits command
-run_by-fits None places command w p e = absurd (none_is_not command e)
-run_by-fits (Some k) None command w p e = absurd (none_is_not command e)
-run_by-fits (Some k) (Some n) command w p e =
+    applied (option_map Run workers) places ≡ Some command → Fits command
+run-fits_by None places command w p e = absurd (none_is_not command e)
+run-fits_by (Some k) None command w p e = absurd (none_is_not command e)
+run-fits_by (Some k) (Some n) command w p e =
     let same : Run k n ≡ command = cc in subst Fits same (w k refl, p n refl)
 
 -- the numbers of a command line `run` are within their limits
 run-fits : (words : List Word) (command : ExactLine) → asked_by words run_row ≡ Some command → Fits command
 run-fits words command e =
     row-fits run_row words command
-    (λ given h. run_by-fits (workers_given (look_up (codes "--workers") given.options))
-    (places_given (look_up (codes "--places") given.options)) command
-    (workers-within (look_up (codes "--workers") given.options))
-    (places-within (look_up (codes "--places") given.options)) h) e
+    (λ given h. run-fits_by (workers_given given.options) (places_given given.options) command
+    (workers-within given.options) (places-within given.options) h) e
 
 -- the numbers of a command line that reads a text are within their limits
 read-fits : (asked : ExactTextCommand) (style : Option Style) (command : ExactLine) →
@@ -124,8 +131,7 @@ read-fits asked (Some style) command e = let same : Read asked style ≡ command
 text-fits : (asked : ExactTextCommand) (words : List Word) (command : ExactLine) →
     asked_by words (text_row asked) ≡ Some command → Fits command
 text-fits asked words command e =
-    row-fits (text_row asked) words command
-    (λ given h. read-fits asked (form_given (look_up (codes "--form") given.options)) command h) e
+    row-fits (text_row asked) words command (λ given h. read-fits asked (form_given given.options) command h) e
 
 -- a command with `--wide` or without has numbers within limits
 wide-fits : (narrow wide : ExactTextCommand) (words : List Word) (command : ExactLine) →
@@ -133,27 +139,26 @@ wide-fits : (narrow wide : ExactTextCommand) (words : List Word) (command : Exac
 wide-fits narrow wide words command e =
     row-fits (wide_row narrow wide) words command
     (λ given h. read-fits (by_width narrow wide (look_up (codes "--wide") given.options))
-    (form_given (look_up (codes "--form") given.options)) command h) e
+    (form_given given.options) command h) e
 
 -- the numbers of a command line `range` of a cost or a right side are within their limits
-range_by-fits : (moved : Option Moved) (name : Option Word) (style : Option Style) (command : ExactLine) →
-    range_by moved name style ≡ Some command → Fits command
-range_by-fits None name style command e = absurd (none_is_not command e)
-range_by-fits (Some w) None style command e = absurd (none_is_not command e)
-range_by-fits (Some w) (Some n) style command e = read-fits (Range w n) style command e
+one-fits : (moved : Option Moved) (name : Option Word) (style : Option Style) (command : ExactLine) →
+    applied (option_map Read (applied (option_map Range moved) name)) style ≡ Some command → Fits command
+one-fits None name style command e = absurd (none_is_not command e)
+one-fits (Some w) None style command e = absurd (none_is_not command e)
+one-fits (Some w) (Some n) style command e = read-fits (Range w n) style command e
 
 -- the words behind `range` give a command whose numbers are within limits
 range_with-fits : (words : List Word) (options : Options) (command : ExactLine) →
     range_with words options ≡ Some command → Fits command
 range_with-fits [] options command e = absurd (none_is_not command e)
-range_with-fits (what ∷ []) options command e =
-    by (is_all what) (form_given (look_up (codes "--form") options)) e
+range_with-fits (what ∷ []) options command e = by (is_all what) (form_given options) e
   where
     by : (t : Bool) (style : Option Style) → cond t (option_map (Read RangeAll) style) None ≡ Some command → Fits command
     by true style h = read-fits RangeAll style command h
     by false style h = absurd (none_is_not command h)
 range_with-fits (what ∷ name ∷ []) options command e =
-    range_by-fits (moved_of what) (name_of name) (form_given (look_up (codes "--form") options)) command e
+    one-fits (moved_of what) (name_of name) (form_given options) command e
 range_with-fits (what ∷ name ∷ word ∷ words) options command e = absurd (none_is_not command e)
 
 -- the numbers of a command line `range` are within their limits
@@ -162,13 +167,13 @@ range-fits words command e =
     row-fits range_row words command (λ given h. range_with-fits given.plain given.options command h) e
 
 -- where rows are at most 256 and columns at most 512, the numbers of the command line `gen` are within limits
-generate_by-fits : (seed rows columns : Option ℕ) (command : ExactLine) →
+generate-fits_by : (seed rows columns : Option ℕ) (command : ExactLine) →
     ((n : ℕ) → rows ≡ Some n → n ≤ 256) → ((n : ℕ) → columns ≡ Some n → n ≤ 512) →
-    generate_by seed rows columns ≡ Some command → Fits command
-generate_by-fits None rows columns command r c e = absurd (none_is_not command e)
-generate_by-fits (Some s) None columns command r c e = absurd (none_is_not command e)
-generate_by-fits (Some s) (Some n) None command r c e = absurd (none_is_not command e)
-generate_by-fits (Some s) (Some n) (Some k) command r c e =
+    applied (applied (option_map Generate seed) rows) columns ≡ Some command → Fits command
+generate-fits_by None rows columns command r c e = absurd (none_is_not command e)
+generate-fits_by (Some s) None columns command r c e = absurd (none_is_not command e)
+generate-fits_by (Some s) (Some n) None command r c e = absurd (none_is_not command e)
+generate-fits_by (Some s) (Some n) (Some k) command r c e =
     let same : Generate s n k ≡ command = cc in subst Fits same (r n refl, c k refl)
 
 -- the words behind `gen` give a command whose numbers are within limits
@@ -177,7 +182,7 @@ generate_with-fits [] command e = absurd (none_is_not command e)
 generate_with-fits (seed ∷ []) command e = absurd (none_is_not command e)
 generate_with-fits (seed ∷ rows ∷ []) command e = absurd (none_is_not command e)
 generate_with-fits (seed ∷ rows ∷ columns ∷ []) command e =
-    generate_by-fits (seed_of seed) (row_count_of rows) (column_count_of columns) command (rows-within rows)
+    generate-fits_by (seed_of seed) (row_count_of rows) (column_count_of columns) command (rows-within rows)
     (columns-within columns) e
 generate_with-fits (seed ∷ rows ∷ columns ∷ word ∷ words) command e = absurd (none_is_not command e)
 
@@ -187,13 +192,14 @@ generate-fits words command e =
     row-fits generate_row words command (λ given h. generate_with-fits given.plain command h) e
 
 -- where numbers of workers, links and places are within limits, so are those of the command line `serve`
-serve_by-fits : (workers each places : Option ℕ) (command : ExactLine) →
+serve-fits_by : (workers each places : Option ℕ) (command : ExactLine) →
     ((k : ℕ) → workers ≡ Some k → IsWorkers k) → ((c : ℕ) → each ≡ Some c → IsLinks c) →
-    ((n : ℕ) → places ≡ Some n → IsPlaces n) → serve_by workers each places ≡ Some command → Fits command
-serve_by-fits None each places command w l p e = absurd (none_is_not command e)
-serve_by-fits (Some k) None places command w l p e = absurd (none_is_not command e)
-serve_by-fits (Some k) (Some c) None command w l p e = absurd (none_is_not command e)
-serve_by-fits (Some k) (Some c) (Some n) command w l p e =
+    ((n : ℕ) → places ≡ Some n → IsPlaces n) →
+    applied (applied (option_map Serve workers) each) places ≡ Some command → Fits command
+serve-fits_by None each places command w l p e = absurd (none_is_not command e)
+serve-fits_by (Some k) None places command w l p e = absurd (none_is_not command e)
+serve-fits_by (Some k) (Some c) None command w l p e = absurd (none_is_not command e)
+serve-fits_by (Some k) (Some c) (Some n) command w l p e =
     let same : Serve k c n ≡ command = cc in subst Fits same (w k refl, l c refl, p n refl)
 
 -- the words behind `serve` give a command whose numbers are within limits
@@ -202,21 +208,13 @@ serve_with-fits : (words : List Word) (options : Options) (command : ExactLine) 
 serve_with-fits [] options command e = absurd (none_is_not command e)
 serve_with-fits (address ∷ word ∷ words) options command e = absurd (none_is_not command e)
 serve_with-fits (address ∷ []) options command e =
-    by (is_plain address) (workers_given workers) (links_given each) (places_given places) (workers-within workers)
-    (links-within each) (places-within places) e
+    by (is_plain address) (workers_given options) (links_given options) (places_given options)
+    (workers-within options) (links-within options) (places-within options) e
   where
-    workers : Option Word
-    workers = look_up (codes "--workers") options
-
-    each : Option Word
-    each = look_up (codes "--each") options
-
-    places : Option Word
-    places = look_up (codes "--places") options
-
     by : (t : Bool) (k c n : Option ℕ) → ((v : ℕ) → k ≡ Some v → IsWorkers v) → ((v : ℕ) → c ≡ Some v → IsLinks v) →
-        ((v : ℕ) → n ≡ Some v → IsPlaces v) → cond t (serve_by k c n) None ≡ Some command → Fits command
-    by true k c n w l p h = serve_by-fits k c n command w l p h
+        ((v : ℕ) → n ≡ Some v → IsPlaces v) →
+        cond t (applied (applied (option_map Serve k) c) n) None ≡ Some command → Fits command
+    by true k c n w l p h = serve-fits_by k c n command w l p h
     by false k c n w l p h = absurd (none_is_not command h)
 
 -- the numbers of a command line `serve` are within their limits

@@ -93,45 +93,35 @@ abbrev pub given_or : {A : Type 0} → A → (Word → Option A) → Option Word
 given_or usual of None = Some usual
 given_or usual of (Some word) = of word
 
--- the form that the word behind `--form` gives, or none for a wrong word; the free one where there is no word
-abbrev pub form_given : Option Word → Option Style
-form_given = given_or Free form_of
-
--- the number 1: how many workers run a script or serve where `--workers` is not given
-abbrev pub usual_workers : ℕ
-usual_workers = 1
+-- the form that the options give by `--form`, or none for a wrong word; the free one where it is not given
+abbrev pub form_given : Options → Option Style
+form_given options = given_or Free form_of (look_up (codes "--form") options)
 
 -- the number of workers that a word gives, from 1 to 16; none for any other word
 unfoldable pub workers_of : Word → Option ℕ
 workers_of word = number_to 16 2 word
 
--- the number of workers that the word behind `--workers` gives, or none for a wrong word; 1 where there is no word
-abbrev pub workers_given : Option Word → Option ℕ
-workers_given = given_or usual_workers workers_of
-
--- the number 256: how many places the sessions share where `--places` is not given
-abbrev pub usual_places : ℕ
-usual_places = 256
+-- the number of workers that the options give by `--workers`, or none for a wrong word; 1 where it is not given
+abbrev pub workers_given : Options → Option ℕ
+workers_given options = given_or 1 workers_of (look_up (codes "--workers") options)
 
 -- the number of places that a word gives, from 1 to 1,024; none for any other word
 unfoldable pub places_of : Word → Option ℕ
 places_of word = number_to 1024 7 word
 
--- the number of places that the word behind `--places` gives, or none for a wrong word; 256 where there is no word
-abbrev pub places_given : Option Word → Option ℕ
-places_given = given_or usual_places places_of
-
--- the number 1: how many links each worker serves, one after the other, where `--each` is not given
-abbrev pub usual_links : ℕ
-usual_links = 1
+-- the number of places, which the sessions share, that the options give by `--places`, or none for a wrong word; 256
+-- where it is not given
+abbrev pub places_given : Options → Option ℕ
+places_given options = given_or 256 places_of (look_up (codes "--places") options)
 
 -- the number of links that a word gives, from 1 to 1,000; none for any other word
 unfoldable pub links_of : Word → Option ℕ
 links_of word = number_to 1000 4 word
 
--- the number of links that the word behind `--each` gives, or none for a wrong word; 1 where there is no word
-abbrev pub links_given : Option Word → Option ℕ
-links_given = given_or usual_links links_of
+-- the number of links, which each worker serves one after the other, that the options give by `--each`, or none for a
+-- wrong word; 1 where it is not given
+abbrev pub links_given : Options → Option ℕ
+links_given options = given_or 1 links_of (look_up (codes "--each") options)
 
 -- whether a word may be an address, or the name of a column or row: it is not empty, and does not begin with `-`
 abbrev pub is_plain : Word → Bool
@@ -158,9 +148,9 @@ pub record Row : Type 0 where
   pub switches : OptionNames
   pub asks : Given → Option ExactLine
 
--- the command `run` with these numbers of workers and places; none where one is absent
-abbrev pub run_by : Option ℕ → Option ℕ → Option ExactLine
-run_by workers places = option_and_then (λ k. option_map (Run k) places) workers
+-- what a function gives of a value; none where one of the two is absent
+abbrev pub applied : {A B : Type 0} → Option (A → B) → Option A → Option B
+applied f a = option_and_then (λ g. option_map g a) f
 
 -- the command `run`, which takes the options --workers and --places
 abbrev pub run_row : Row
@@ -168,8 +158,7 @@ run_row = record {
   plain = λ words. 0;
   names = codes "--workers" ∷ codes "--places" ∷ [];
   switches = [];
-  asks = λ given. run_by (workers_given (look_up (codes "--workers") given.options))
-      (places_given (look_up (codes "--places") given.options));
+  asks = λ given. applied (option_map Run (workers_given given.options)) (places_given given.options);
 }
 
 -- the row of a command that reads a text and takes the option --form
@@ -178,7 +167,7 @@ text_row command = record {
   plain = λ words. 0;
   names = codes "--form" ∷ [];
   switches = [];
-  asks = λ given. option_map (Read command) (form_given (look_up (codes "--form") given.options));
+  asks = λ given. option_map (Read command) (form_given given.options);
 }
 
 -- the first command, or the second, for numbers of any width, where `--wide` is given
@@ -193,7 +182,7 @@ wide_row narrow wide = record {
   names = codes "--form" ∷ codes "--wide" ∷ [];
   switches = codes "--wide" ∷ [];
   asks = λ given. option_map (Read (by_width narrow wide (look_up (codes "--wide") given.options)))
-      (form_given (look_up (codes "--form") given.options));
+      (form_given given.options);
 }
 
 -- which kind of number a word of `range` means, `cost` or `rhs`; none for any other word
@@ -203,11 +192,6 @@ moved_of word = look_up word ((codes "cost", Cost) ∷ (codes "rhs", RightSide) 
 -- the name of a column or row that a word is; none where it may be no name
 abbrev pub name_of : Word → Option Word
 name_of word = if is_plain word then Some word else None
-
--- the command `range` of one number, by its kind, its name and the form; none where one of them is absent
-abbrev pub range_by : Option Moved → Option Word → Option Style → Option ExactLine
-range_by moved name style =
-    option_and_then (λ w. option_and_then (λ n. option_map (Read (Range w n)) style) name) moved
 
 -- whether a word of `range` is `all`, for all numbers
 abbrev pub is_all : Word → Bool
@@ -221,10 +205,9 @@ range_plain (what ∷ words) = if is_all what then 1 else 2
 -- the command `range` by its plain words, `all` or a kind of number and a name, and its options;
 -- none where they are wrong
 abbrev pub range_with : List Word → Options → Option ExactLine
-range_with (what ∷ []) options =
-    if is_all what then option_map (Read RangeAll) (form_given (look_up (codes "--form") options)) else None
+range_with (what ∷ []) options = if is_all what then option_map (Read RangeAll) (form_given options) else None
 range_with (what ∷ name ∷ []) options =
-    range_by (moved_of what) (name_of name) (form_given (look_up (codes "--form") options))
+    applied (option_map Read (applied (option_map Range (moved_of what)) (name_of name))) (form_given options)
 range_with words options = None
 
 -- the command `range`, which takes one word or two and the option --form
@@ -236,31 +219,21 @@ range_row = record {
   asks = λ given. range_with given.plain given.options;
 }
 
--- the command `gen` with a seed, a number of rows and one of columns; none where one is absent
-abbrev pub generate_by : Option ℕ → Option ℕ → Option ℕ → Option ExactLine
-generate_by seed rows columns =
-    option_and_then (λ s. option_and_then (λ r. option_map (Generate s r) columns) rows) seed
-
 -- the command `gen` by its three words; none where they are wrong
 abbrev pub generate_with : List Word → Option ExactLine
-generate_with (seed ∷ rows ∷ columns ∷ []) = generate_by (seed_of seed) (row_count_of rows) (column_count_of columns)
+generate_with (seed ∷ rows ∷ columns ∷ []) =
+    applied (applied (option_map Generate (seed_of seed)) (row_count_of rows)) (column_count_of columns)
 generate_with words = None
 
 -- the command `gen`, which takes three words and no options
 abbrev pub generate_row : Row
 generate_row = record { plain = λ words. 3; names = []; switches = []; asks = λ given. generate_with given.plain }
 
--- the command `serve` with the numbers of workers, of links for each and of places; none where one is absent
-abbrev pub serve_by : Option ℕ → Option ℕ → Option ℕ → Option ExactLine
-serve_by workers each places =
-    option_and_then (λ k. option_and_then (λ c. option_map (Serve k c) places) each) workers
-
 -- the command `serve` by the word for its address and its options; none where they are wrong
 abbrev pub serve_with : List Word → Options → Option ExactLine
 serve_with (address ∷ []) options =
     if is_plain address
-    then serve_by (workers_given (look_up (codes "--workers") options))
-    (links_given (look_up (codes "--each") options)) (places_given (look_up (codes "--places") options))
+    then applied (applied (option_map Serve (workers_given options)) (links_given options)) (places_given options)
     else None
 serve_with words options = None
 
