@@ -35,8 +35,8 @@ def comment_above(lines: list[str], k: int, marks: tuple[str, ...]) -> str:
 
 
 def entry_at_head(lines: list[str], name: str) -> str:
-    """What the head of a file of lemmas says of a lemma, if it has a line on it."""
-    head = "\n".join(line.removeprefix("--").strip() for line in head_of(lines))
+    """What the head of a file of lemmas says of a lemma, if it has a line on it. What goes on in a further line stands further in."""
+    head = "\n".join(line.removeprefix("--").removeprefix(" ") for line in head_of(lines))
     entry = re.search(rf"^`{re.escape(name)}`: (.*?)(?=^`|\Z)", head, re.M | re.S)
     return " ".join(entry[1].split()) if entry else ""
 
