@@ -3,11 +3,11 @@
 
     check_refusals.py <LOG     what `rt ci` wrote
 
-A wrong body in crates/CRATE/must-fail/ may leave out modules that it does not need, by lines that put `#[cfg(test)]` before
-a `mod` or a `use`: then the crate's check is of the other modules alone. `rt ci` fails where a wrong body is still proved,
-but not where it no longer compiles; and a crate may also be refused because too much was left out. So each has to have a
-line that it was refused, and the first fault that stands there has to be in the file that the wrong body changes, or in a
-proof of it. It prints what is not so; the status is 1 where something is.
+A wrong body in crates/CRATE/must-fail/ may leave out what it does not need: lines put `#[cfg(test)]` before an item, or make
+a comment of a file of specs/ or proofs/ (tools/edits.py). Then the crate's check is of the rest alone. `rt ci` fails where
+a wrong body is still proved, but not where it no longer compiles; and a crate may also be refused because too much was left
+out. So each has to have a line that it was refused, and the first fault that stands there has to be in the file that the
+wrong body changes, or in a proof of it. It prints what is not so; the status is 1 where something is.
 """
 import re
 import sys
@@ -16,25 +16,16 @@ from pathlib import Path
 TOP = Path(__file__).resolve().parent.parent
 sys.path.insert(0, str(TOP / "tools"))
 
+from edits import leaves_out, pairs_of  # noqa: E402
 from helping import helps  # noqa: E402
 
-LEFT_OUT = "#[cfg(test)] "
 TRIED = re.compile(r"^rt: must-fail (\w+/[\w.-]+\.edit): (.*)$", re.M)
 REFUSED = re.compile(r"refused, as it must be(?: \([^)]*\))?(?:: (?:note: )?(?:\./)?(\S+?):\d+:\d+: )?")
 
 
 def changed(edit: Path) -> set[str]:
-    """The files whose code an edit changes, but for lines that leave out a module."""
-    files, file, old = set(), "", ""
-    for line in edit.read_text(encoding="utf-8").splitlines():
-        word, _, text = line.partition(": ")
-        if word == "file":
-            file = text
-        elif word == "old":
-            old = text
-        elif line.startswith("new:") and text != LEFT_OUT + old:
-            files.add(file)
-    return files
+    """The files whose code an edit changes, but for lines that leave something out."""
+    return {file for file, old, new in pairs_of(edit.read_text(encoding="utf-8")) if not leaves_out(old, new)}
 
 
 def is_of(place: str, files: set[str]) -> bool:
