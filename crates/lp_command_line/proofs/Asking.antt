@@ -4,7 +4,6 @@
 -- `asks-generate`: three words behind `gen` are the command with the seed and the counts that they give, if they give
 --   them.
 -- `few-serve`: the word `serve` without words behind it is no command.
--- `first-word`: the texts of at least one word are the first one's text and those of the words behind it.
 -- `few-number`: fewer than two words are no range of one number.
 -- `first-two`: the texts of at least two words are those of the first two and of the words behind them.
 -- `few-range`: the word `range` without words behind it is no command.
@@ -198,16 +197,6 @@ pub few-serve : {X : Type 0} (f : X → List ℕ) (words : List X) → length wo
 unfolding given_in
 few-serve f [] few = refl
 few-serve f (x ∷ words) few = absurd (omega (arith, few))
-
--- the first word's text, and the words behind it
-pub first-word : {X : Type 0} (f : X → List ℕ) (words : List X) (x : X) (a : List ℕ) → 1 ≤ length words →
-    x ≡ get_or words 0 x → a ≡ f x → map f words ≡ a ∷ map f (take (length words - 1) (drop 1 words))
-first-word f [] x a enough is_x is_a = absurd (omega (arith, enough))
-first-word f (u ∷ words) x a enough is_x is_a =
-    let behind : length words ≡ length (u ∷ words) - 1 = omega arith in
-    ap (λ t. t ∷ map f words) (ap f (sym is_x) ∙ sym is_a)
-    ∙ ap (λ ws. a ∷ map f ws) (sym (take-length words))
-    ∙ ap (λ n. a ∷ map f (take n words)) behind
 
 module _ (address : List ℕ) (words all : List (List ℕ)) (cut : all ≡ address ∷ words) where
   -- the address and the words behind it are at least one word

@@ -1,5 +1,6 @@
 -- The options of a command line, read one by one by the code and in pairs by the definition.
 --
+-- `first-word`: the texts of at least one word are the first one's text and those of the words behind it.
 -- `value-look_up`: where the words pair up as options, the value read by a name is the one that the pairs have.
 -- `pairs_are`: the test that there are pairs and all of their options have these names, none given twice.
 -- `options-some`: where the test of the words one by one passes, they are options, which are their pairs.
@@ -8,7 +9,7 @@
 -- `any-bytes`: a word is one of the names as the code holds them exactly if it is one of their texts.
 -- `some-copied`: copying the value behind an optional reference keeps whether there is a value.
 use Rattle.std.proofs.Common.{◌≡◌, ℕ, ◌&&◌, ◌||◌, Bool, true, false, not, cond, ◌<◌, ◌==◌, arith}
-use Rattle.std.proofs.Common.{List, [], ◌∷◌, length, map, Option, Some, None, refl, sym, ap, ◌∙◌}
+use Rattle.std.proofs.Common.{List, [], ◌∷◌, length, map, take, drop, get_or, ◌≤◌, ◌-◌, Option, Some, None, refl, sym, ap, ◌∙◌}
 use Rattle.std.specs.Prelude.{option_copied, is_some, option_map, option_and_then}
 use Rattle.std.specs.List.{list_all, list_any}
 use Rattle.std.proofs.lemmas.Option.{none-some}
@@ -17,9 +18,20 @@ use Rattle.spec_text.specs.Words.{same}
 use Rattle.spec_mps.specs.Shapes.{look_up}
 use Rattle.spec_program.specs.CommandLine.{Options, OptionNames, in_pairs, is_one_of, are_distinct, are_options_of}
 use Rattle.spec_program.specs.CommandLine.{options_in}
+use Rattle.std.proofs.Math.Seq.{take-length}
 use Rattle.lp_command_line.specs.Words.{Cut, first_in, value_in, is_new_option, are_in, bytes_of}
 
--- ---- the first option
+-- ---- the first word and the first option
+
+-- the first word's text, and the words behind it
+pub first-word : {X : Type 0} (f : X → List ℕ) (words : List X) (x : X) (a : List ℕ) → 1 ≤ length words →
+    x ≡ get_or words 0 x → a ≡ f x → map f words ≡ a ∷ map f (take (length words - 1) (drop 1 words))
+first-word f [] x a enough is_x is_a = absurd (omega (arith, enough))
+first-word f (u ∷ words) x a enough is_x is_a =
+    let behind : length words ≡ length (u ∷ words) - 1 = omega arith in
+    ap (λ t. t ∷ map f words) (ap f (sym is_x) ∙ sym is_a)
+    ∙ ap (λ ws. a ∷ map f ws) (sym (take-length words))
+    ∙ ap (λ n. a ∷ map f (take n words)) behind
 
 module _ (switches : OptionNames) where
   -- no words have no first option

@@ -1,3 +1,4 @@
 pub mod Words
+pub mod Listening
 pub mod Notices
 pub mod WordFaults

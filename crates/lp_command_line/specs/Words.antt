@@ -9,9 +9,8 @@ use Rattle.spec_mps.specs.declared.style.Style.TheVariants.{Free}
 use Rattle.spec_program.specs.declared.command_line.CommandLine.TheVariants.{Read, Serve}
 use Rattle.spec_program.specs.declared.command_line.Moved.{Moved}
 use Rattle.spec_program.specs.declared.command_line.TextCommand.TheVariants.{Range}
-use Rattle.spec_program.specs.CommandLine.{Address, ExactLine, OptionNames, Row, is_one_of, range_row}
+use Rattle.spec_program.specs.CommandLine.{ExactLine, OptionNames, Row, is_one_of, range_row}
 use Rattle.spec_program.specs.CommandLine.{given_or, workers_of, links_of, places_of, form_of, applied}
-use Rattle.lp_command_line.specs.declared.listening.Serving.{Serving}
 
 -- the texts of names that the code holds behind references
 abbrev pub bytes_of : List (Bor (List ℕ)) → List (List ℕ)
@@ -79,11 +78,6 @@ are_in names switches (option ∷ value ∷ words) =
     then are_in names switches (value ∷ words) else false)
     else
     (if is_new_option names option (value_in switches option words) then are_in names switches words else false)
-
--- where a server is to listen, and its number of workers, as the definition has what the code holds
-abbrev pub planned : Option Serving → Option Address
-planned None = None
-planned (Some serving) = Some (record { address = string_bytes serving.address.now; workers = serving.workers })
 
 -- the list of the one switch --wide
 abbrev pub wide_switch : OptionNames

@@ -6,10 +6,8 @@ ghost use Rattle.lp_command_line.specs.WordFaults.{told};
 ghost use Rattle.lp_command_line.specs.WordFaults as faults;
 
 use crate::fault::{Plain, WordFault};
-use crate::line::{
-    COMMANDS, Command, WIDE, first_option, form_in, is_all, is_one_of, is_plain, links_in,
-    moved_of, places_in, seed_of, value_of, workers_in,
-};
+use crate::line::{COMMANDS, Command, WIDE, is_all, is_plain, moved_of, seed_of};
+use crate::options::{first_option, form_in, is_one_of, links_in, places_in, value_of, workers_in};
 use lp_base::look_up;
 use lp_line::number_to;
 

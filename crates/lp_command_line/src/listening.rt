@@ -1,7 +1,7 @@
 // Where a server listens.
 ghost use Rattle.std.specs.Prelude.{◌≡◌, map, string_bytes};
 ghost use Rattle.spec_program.specs.CommandLine.{address_of};
-ghost use Rattle.lp_command_line.specs.Words.{planned};
+ghost use Rattle.lp_command_line.specs.Listening.{planned};
 
 use crate::command_line_of;
 use spec_program::CommandLine;

@@ -1,7 +1,7 @@
 -- Behind the word for all numbers, or of all words.
 use Rattle.std.proofs.Common.{sym, ◌∙◌, map, take, drop, length, ◌-◌}
 use Rattle.std.specs.Prelude.{string_bytes}
-use Rattle.lp_command_line.proofs.Asking.{first-word}
+use Rattle.lp_command_line.proofs.OptionLemmas.{first-word}
 use Rattle.lp_command_line.proofs.Faultless.{all_fault, one_fault}
 use Rattle.lp_command_line.proofs.finding.range_fault.Goals as goal
 

@@ -3,7 +3,7 @@ use Rattle.std.proofs.Common.{sym, ap, ◌∙◌}
 use Rattle.std.specs.Prelude.{string_bytes}
 use Rattle.lp_command_line.specs.declared.fault.Plain.TheVariants.{Address}
 use Rattle.lp_command_line.specs.WordFaults.{plain_fault, serve_fault}
-use Rattle.lp_command_line.proofs.Asking.{first-word}
+use Rattle.lp_command_line.proofs.OptionLemmas.{first-word}
 use Rattle.lp_command_line.proofs.OptionFaults.{told-by}
 use Rattle.lp_command_line.proofs.finding.serve_fault.Goals as goal
 

@@ -3,7 +3,8 @@ use Rattle.std.proofs.Common.{Some, None, sym, ap, ◌∙◌, map}
 use Rattle.std.specs.Prelude.{string_bytes}
 use Rattle.spec_program.specs.Spelled.{told}
 use Rattle.lp_command_line.specs.declared.line.Command.TheVariants.{Run, Read, ByWidth, Range, Generate, Serve}
-use Rattle.lp_command_line.proofs.Asking.{first-word, asks-command, no-words}
+use Rattle.lp_command_line.proofs.Asking.{asks-command, no-words}
+use Rattle.lp_command_line.proofs.OptionLemmas.{first-word}
 use Rattle.lp_command_line.proofs.line.command_line_of.Goals as goal
 
 pub returns-in_default : goal.returns-in_default

@@ -1,7 +1,8 @@
 -- No word, the word for all numbers, and another one.
 use Rattle.std.proofs.Common.{sym, ◌∙◌, map, take, drop, length, ◌-◌}
 use Rattle.std.specs.Prelude.{string_bytes}
-use Rattle.lp_command_line.proofs.Asking.{few-range, first-word, asks-all, asks-one}
+use Rattle.lp_command_line.proofs.Asking.{few-range, asks-all, asks-one}
+use Rattle.lp_command_line.proofs.OptionLemmas.{first-word}
 use Rattle.lp_command_line.proofs.line.range_line.Goals as goal
 
 pub returns-in_default : goal.returns-in_default

@@ -1,7 +1,8 @@
 -- No words, an address or options that are none, and a server.
 use Rattle.std.proofs.Common.{sym, ◌∙◌, map, take, drop, length, ◌-◌}
 use Rattle.std.specs.Prelude.{string_bytes}
-use Rattle.lp_command_line.proofs.Asking.{few-serve, first-word, no-address, serve-refused, asks-serve}
+use Rattle.lp_command_line.proofs.Asking.{few-serve, no-address, serve-refused, asks-serve}
+use Rattle.lp_command_line.proofs.OptionLemmas.{first-word}
 use Rattle.lp_command_line.proofs.line.serve_line.Goals as goal
 
 pub returns-in_default : goal.returns-in_default

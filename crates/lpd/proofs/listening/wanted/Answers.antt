@@ -1,6 +1,6 @@
 -- By what the plan says.
 use Rattle.std.proofs.Common.{None, map, ap, sym, ◌∙◌, string_bytes}
-use Rattle.lp_command_line.specs.Words.{planned}
+use Rattle.lp_command_line.specs.Listening.{planned}
 use Rattle.lpd.proofs.Wanted.{are-wanted}
 use Rattle.lpd.proofs.listening.wanted.Goals as goal
 

@@ -3,7 +3,7 @@ use Rattle.std.proofs.Common.{true, false, sym, ◌∙◌, map}
 use Rattle.std.specs.Prelude.{string_bytes}
 use Rattle.lp_command_line.specs.Words.{bytes_of}
 use Rattle.lp_command_line.proofs.OptionLemmas.{value-none, value-first}
-use Rattle.lp_command_line.proofs.line.value_of.Goals as goal
+use Rattle.lp_command_line.proofs.options.value_of.Goals as goal
 
 pub returns-then-are_same : goal.returns-then-are_same
 returns-then-are_same c =

@@ -2,7 +2,7 @@
 use Rattle.std.proofs.Common.{◌≡◌, length, map}
 use Rattle.std.specs.Prelude.{string_bytes}
 use Rattle.lp_command_line.specs.Words.{bytes_of, value_in}
-use Rattle.lp_command_line.proofs.line.value_of.Given as goal
+use Rattle.lp_command_line.proofs.options.value_of.Given as goal
 
 abbrev pub invariant-loop-option : goal.invariant-loop-option
 invariant-loop-option l =

@@ -3,7 +3,7 @@ use Rattle.std.proofs.Common.{sym, ◌∙◌, map}
 use Rattle.std.specs.Prelude.{string_bytes, option_copied}
 use Rattle.lp_command_line.specs.Words.{bytes_of}
 use Rattle.lp_command_line.proofs.OptionLemmas.{are-short, are-unknown, are-again, are-more, some-copied}
-use Rattle.lp_command_line.proofs.line.are_options.Goals as goal
+use Rattle.lp_command_line.proofs.options.are_options.Goals as goal
 
 pub returns-then-not-is_one_of : goal.returns-then-not-is_one_of
 returns-then-not-is_one_of c =

@@ -2,9 +2,8 @@
 use Rattle.std.proofs.Common.{sym, ap, ◌∙◌, ◌∷◌, map, take, drop, length, ◌-◌}
 use Rattle.std.specs.Prelude.{string_bytes}
 use Rattle.lp_command_line.specs.Words.{bytes_of}
-use Rattle.lp_command_line.proofs.OptionLemmas.{any-bytes, cut-none, cut-switch, cut-short, cut-value}
-use Rattle.lp_command_line.proofs.Asking.{first-word}
-use Rattle.lp_command_line.proofs.line.first_option.Goals as goal
+use Rattle.lp_command_line.proofs.OptionLemmas.{any-bytes, cut-none, cut-switch, cut-short, cut-value, first-word}
+use Rattle.lp_command_line.proofs.options.first_option.Goals as goal
 
 pub returns-in_default-clause-cut : goal.returns-in_default-clause-cut
 returns-in_default-clause-cut c =
