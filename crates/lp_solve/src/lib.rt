@@ -22,6 +22,7 @@
 //! | `OPENING_BUDGET` | the budget of a new session, and of the commands that solve | src/solving |
 //! | `solve_exactly`, `ExactEnd`, `ExactAnswer` | the exact solve of a model, whose numbers may have any width | src/exact |
 //! | `at_basis`, `at_near_end`, `at_float_end`, `over_rows` | answers by certificates checked without a limit | src/shown |
+//! | `accepted` | the answer of a certificate to which the check without a limit says yes | src/acceptance |
 //! | `stand_at_basis` | whether a point and multipliers stand as a basis says | src/stands |
 //! | `fits_lines` | whether the numbers of a certificate fit their lines | src/lines |
 //! | `widened_certificate` | a certificate of 127 bits as one whose numbers may have any width | src/widened |
@@ -36,6 +37,7 @@
 //! | `IsAfterStop` | how a solve ends where the start from the basis has stopped | specs/Stopped |
 #![tactic(auto)]
 
+mod acceptance;
 mod basis;
 mod certificate;
 mod cold;

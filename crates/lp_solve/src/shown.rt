@@ -5,13 +5,13 @@ ghost use Rattle.spec_check.specs.Certificate.{IsFor};
 ghost use Rattle.spec_simplex.specs.Eliminate.{IsBasisOf};
 ghost use Rattle.spec_simplex.specs.Form.{form_of};
 ghost use Rattle.spec_solve.specs.OfBasis.{IsOfBasis};
-ghost use Rattle.spec_solve.specs.Exact.{IsShown, IsBasisOfAnswer, IsExactAnswer};
+ghost use Rattle.spec_solve.specs.Exact.{IsBasisOfAnswer, IsExactAnswer};
 
+use crate::acceptance::accepted;
 use crate::basis::basis_of;
 use crate::exact::ExactAnswer;
-use crate::lines::fits_lines;
 use crate::stands::stand_at_basis;
-use lp_check::wide::{Certificate, Known, Verdict, check};
+use lp_check::wide::Certificate;
 use lp_float::{FloatEnd, float_end, near_end};
 use lp_form::{Basis, Form, LargeForm, Status, is_basis, large_form};
 use lp_frac::Stop;
@@ -33,27 +33,6 @@ const MORE_STEPS: u32 = 10_000;
 
 // The effort of a run without a limit on the numbers of its certificate, some minutes of it.
 const WIDE_WORK: u64 = 64_000_000_000;
-
-// The answer that the checker without a limit gives to the certificate; none if it says no, or the numerator or
-// denominator of a number is past half a line.
-fn accepted(
-    alloc: Global,
-    model: &Model,
-    certificate: &Certificate,
-) -> Result<Option<Known>, AllocError>
-    requires { IsFor model.now certificate.now }
-    ensures { IfOk result (λ o. IfSome o (λ known. IsShown model.now known certificate.now)) }
-{
-    let Verdict::Yes(known) = check(alloc, model, certificate)? else {
-        return Ok(None);
-    };
-    if fits_lines(alloc, certificate)? {
-        Ok(Some(known))
-    } else {
-        drop(known);
-        Ok(None)
-    }
-}
 
 // The exact answer with this certificate and basis, if the checker accepts the certificate and its numbers fit their
 // lines; else none.
