@@ -119,3 +119,5 @@ run_plain old new before after ahead is some room plain moved kept =
       ended = ap (λ (r : LinesState). r.ended) moved;
       kept = kept;
     }
+
+-- end of RunSteps

@@ -297,3 +297,5 @@ module _ {T : Type 0} (value : T → ℕ) (f : Form) (r : RowTableau T) (costs :
           stands = b.shown.stands;
         };
       }
+
+-- end of BasisRows

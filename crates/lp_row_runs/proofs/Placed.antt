@@ -242,3 +242,5 @@ module _ {T : Type 0} (value : T → ℕ) (k : ℕ) (old new : RowTableau T) (wh
           (subst (λ n. AreMoved value n k (over by 1) old.rows.items new.rows.items) wide moved) stands);
       basic = ap (λ (ks : _). ks.items) basic ∙ u.basic;
     }
+
+-- end of Placed

@@ -168,3 +168,5 @@ unsolved_is value f basis r kept all cols rows costs none basic status lower upp
       rows = rows;
       basic = basic;
     }
+
+-- end of Unsolved

@@ -142,3 +142,5 @@ rows_more value t d i rows now row so_far is n =
           (λ e. row_at-before value d rows row j (form_columns t) (omega (arith, l, e, so_far.len))
           ∙ so_far.values j (omega (arith, l, e)));
     })
+
+-- end of Converted

@@ -119,3 +119,5 @@ module _ {T : Type 0} (value : T → ℕ) (t : Tableau) (r : RowTableau T) (shap
         ∙ get_or-made (form_columns t) (λ k. is_fixed (lower_at t k) (upper_at t k)) k false l);
     stands = reached_stands t reached;
   }
+
+-- end of Held

@@ -220,3 +220,5 @@ module _ {T : Type 0} (value : T → ℕ) (r s : RowTableau T) (w : IsWhole valu
             (upper_read j upper' z4 inside upper_is');
         rows = turned;
       }
+
+-- end of SameCounts

@@ -154,3 +154,5 @@ module _ {T U : Type 0} (value : T → ℕ) (wide : U → ℕ) where
       fixed = λ k l. shown.fixed k l ∙ ap (λ bs. get_or bs k false) (sym same.fixed);
       stands = shown.stands;
     }
+
+-- end of SameNumbers

@@ -181,3 +181,5 @@ stated_costs t costs reduced ok k h =
 
     more : (c s p : ℚ) → (c -ℚ s) -ℚ p ≡ c -ℚ (s +ℚ p)
     more c s p = simp ring
+
+-- end of Taken

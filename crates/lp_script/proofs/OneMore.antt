@@ -292,3 +292,5 @@ used_of board asks w so = record {
   were_true = so.hired.were_true;
   orderly = so.had.orderly;
 }
+
+-- end of OneMore

@@ -261,3 +261,5 @@ module _ {N : Type 0} (state : N → ListenerState) (board : Board) (each : ℕ)
         were_true = noted.1;
         orderly = orderly_now old new has.links fresh so;
       }
+
+-- end of AllServed
