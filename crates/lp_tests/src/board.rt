@@ -9,6 +9,7 @@ use spec_board::{BasisWords, ShapeWords};
 use std::sync::atomic::{AtomicU64, Ordering};
 use std::test::Fail;
 use std::thread;
+use std::thread::Threads;
 
 // The words of a basis: one row with a lower limit alone, whose logical is at it,
 // and one basic column with a lower bound alone.
@@ -66,26 +67,44 @@ fn second(
     (pass, look, put, full)
 }
 
+// What both threads' calls came to: the publication of the first one, and the look and the publications of the second.
+// Then what a look comes to by the pass that both passes are met into.
+fn calls<R: Threads + Sync>(
+    rt: &R,
+    board: &Board,
+    mut pass: Pass,
+    words: &BasisWords,
+) -> (Put, Look, Put, Put, Look)
+    requires board { pass.board ≡ id_of board.now }
+    requires share { pass.view.share ≡ 64 }
+    requires formed { IsWellFormed words.now }
+{
+    let other = board.split(&mut pass);
+    let flag = AtomicU64::new(0);
+    let (mine, theirs) = thread::join(
+        rt,
+        || first(board, pass, words, &flag),
+        || second(board, other, words, &flag),
+    );
+    let mut both = board.meet(mine.0, theirs.0);
+    let last = board.look(&mut both, &shape());
+    (mine.1, theirs.1, theirs.2, theirs.3, last)
+}
+
 // A look finds what another thread published before. A third publication on two places finds them full, and the pass
 // that both passes are met into finds the newer place.
 #[test]
 fn one_thread_finds_what_another_published(rt: HostRuntime) -> Result<(), Fail> {
-    let (board, mut pass) = Board::new(rt.alloc(), 2)?;
     let words = words();
     if !well_formed(&words) {
         return Ok(assert!(rt; false));
     }
-    let other = board.split(&mut pass);
-    let flag = AtomicU64::new(0);
-    let (mine, theirs) = thread::join(
-        &rt,
-        || first(&board, pass, &words, &flag),
-        || second(&board, other, &words, &flag),
-    );
-    assert!(rt; mine.1 == Put::Published(0));
-    assert!(rt; theirs.1 == Look::Found(0, words));
-    assert!(rt; theirs.2 == Put::Published(1) && theirs.3 == Put::Full(2));
-    let mut both = board.meet(mine.0, theirs.0);
-    assert!(rt; board.look(&mut both, &shape()) == Look::Found(1, words));
+    let (board, pass) = Board::new(rt.alloc(), 2)?;
+    let (mine, look, put, full, last) = calls(&rt, &board, pass, &words);
+    drop(board);
+    assert!(rt; mine == Put::Published(0));
+    assert!(rt; look == Look::Found(0, words));
+    assert!(rt; put == Put::Published(1) && full == Put::Full(2));
+    assert!(rt; last == Look::Found(1, words));
     Ok(())
 }

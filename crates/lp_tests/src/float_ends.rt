@@ -1,8 +1,6 @@
 // Ends of runs in floats: what lifting makes of their bases, with no step.
-use crate::lifted_bases::{model_of, shows, statuses_of};
-use lp_check::wide::check;
+use crate::lifted_bases::{leads_to, model_of, statuses_of};
 use lp_float::{FloatEnd, float_end, near_end};
-use lp_lift::answer_of_basis;
 use lp_model::Model;
 use std::alloc::{AllocError, Global};
 use std::test::Fail;
@@ -37,14 +35,8 @@ fn has_answer(
     start: Start,
     wanted: &str,
 ) -> Result<bool, AllocError> {
-    let Some(end) = end_of(alloc, model, start)? else {
-        return Ok(false);
-    };
-    match answer_of_basis(alloc, model, &end.statuses, end.witness, 0)? {
-        Some(lifted) => {
-            let verdict = check(alloc, model, &lifted.certificate)?;
-            Ok(shows(alloc, &verdict, wanted))
-        }
+    match end_of(alloc, model, start)? {
+        Some(end) => leads_to(alloc, model, &end.statuses, end.witness, 0, wanted),
         None => Ok(false),
     }
 }
@@ -81,7 +73,7 @@ const RISING: &str =
     "NAME rising\nROWS\n N cost\n L R1\nCOLUMNS\n x cost -1 R1 1\n y cost -1 R1 -1\n\
 RHS\n r R1 3\nENDATA\n";
 
-const CASES: [Case; 12] = [
+static CASES: [Case; 12] = [
     // From the logical basis a run ends at the optimal basis.
     (CORNER, Start::Logical, "-5"),
     // So does one from statuses that are a basis, from some that are none, and from none at all.

@@ -105,11 +105,35 @@ fn look_all<R: Threads + Sync>(rt: &R, board: &Board, words: &BasisWords, all: &
     );
 }
 
+// How many publishers took place 0, how many were refused, and how many have found the words.
+fn counts(all: &[Publisher]) -> (usize, usize, usize) {
+    let (mut first, mut refused, mut found) = (0usize, 0usize, 0usize);
+    for one in all {
+        first = first.saturating_add(one.was_first() as usize);
+        refused = refused.saturating_add(one.was_refused() as usize);
+        found = found.saturating_add(one.has_found as usize);
+    }
+    (first, refused, found)
+}
+
+// The counts where each publisher publishes the words, and then each looks for them.
+fn counts_of<R: Threads + Sync>(
+    rt: &R,
+    alloc: Global,
+    words: &BasisWords,
+) -> Result<(usize, usize, usize), AllocError>
+    requires { IsWellFormed words.now }
+{
+    let (board, pass) = Board::new(alloc, 1)?;
+    let mut all = publishers(alloc, &board, pass)?;
+    publish_all(rt, &board, words, all.as_mut_slice());
+    look_all(rt, &board, words, all.as_mut_slice());
+    Ok(counts(&all))
+}
+
 // Of sixteen publications on one place one wins, the others are refused, and then every pass finds the words.
 #[test]
 fn one_of_sixteen_passes_publishes_and_all_find(rt: HostRuntime) -> Result<(), Fail> {
-    let alloc = rt.alloc();
-    let (board, pass) = Board::new(alloc, 1)?;
     // one row with a lower limit alone, whose logical is at it, and one basic column with a lower bound alone
     let mut words = [0u64; 49];
     words[0] = 65537;
@@ -118,12 +142,7 @@ fn one_of_sixteen_passes_publishes_and_all_find(rt: HostRuntime) -> Result<(), F
     if !well_formed(&words) {
         return Ok(assert!(rt; false));
     }
-    let mut all = publishers(alloc, &board, pass)?;
-    publish_all(&rt, &board, &words, all.as_mut_slice());
-    let first = all.iter().filter(|one| one.was_first()).count();
-    let refused = all.iter().filter(|one| one.was_refused()).count();
-    look_all(&rt, &board, &words, all.as_mut_slice());
-    let found = all.iter().filter(|one| one.has_found).count();
-    assert_eq!(rt; (first, refused, found), (1, PASSES - 1, PASSES));
+    let counts = counts_of(&rt, rt.alloc(), &words)?;
+    assert_eq!(rt; counts, (1, PASSES - 1, PASSES));
     Ok(())
 }

@@ -1,4 +1,6 @@
 // Answers of bases by lifting: of bases that are optimal, of some that are none, and of some that are a few steps away.
+ghost use Rattle.std.specs.Prelude.{◌≡◌};
+
 use lp_base::{Bytes, Feed, Lines, MemSource, Texts, are_same};
 use lp_check::wide::{Known, Verdict, check};
 use lp_lift::answer_of_basis;
@@ -11,24 +13,43 @@ use spec_pivot::Status;
 use std::alloc::{AllocError, Global};
 use std::test::Fail;
 
-// The model that a text spells in free style, if it has at most a hundred lines; none where it spells none.
-pub(crate) fn model_of(alloc: Global, text: &str) -> Result<Option<Model>, AllocError> {
-    let mut pieces = Texts::new(alloc);
-    pieces.push(Bytes::from_slice(alloc, text.as_bytes())?)?;
-    let mut source = MemSource::new(pieces, Vec::new(alloc));
-    let mut lines = Lines::new(alloc)?;
-    let mut reader = LargeReader::new(alloc, Style::Free);
+// The model that the next lines of a source spell to a reader that has read none, if it has at most a hundred lines;
+// none where they spell none.
+fn next_model(
+    alloc: Global,
+    lines: &mut Lines,
+    source: &mut MemSource,
+    reader: &mut LargeReader,
+) -> Option<Model>
+    requires { reader.old.lines ≡ 0 }
+{
     for _ in 0..100u32 {
-        let Ok(line) = lines.next(&mut source) else {
-            return Ok(None);
+        let answer = match lines.next(source) {
+            Ok(line) => reader.feed(alloc, &line),
+            Err(_) => return None,
         };
-        match reader.feed(alloc, &line) {
+        match answer {
             Feed::More => {}
-            Feed::Done(model) => return Ok(Some(model)),
-            Feed::Refused(_) | Feed::NoMemory => return Ok(None),
+            Feed::Done(model) => return Some(model),
+            Feed::Refused(_) | Feed::NoMemory => return None,
         }
     }
-    Ok(None)
+    None
+}
+
+// A source that gives a text.
+fn source_of(alloc: Global, text: &str) -> Result<MemSource, AllocError> {
+    let mut pieces = Texts::new(alloc);
+    pieces.push(Bytes::from_slice(alloc, text.as_bytes())?)?;
+    Ok(MemSource::new(pieces, Vec::new(alloc)))
+}
+
+// The model that a text spells in free style, if it has at most a hundred lines; none where it spells none.
+pub(crate) fn model_of(alloc: Global, text: &str) -> Result<Option<Model>, AllocError> {
+    let mut source = source_of(alloc, text)?;
+    let mut lines = Lines::new(alloc)?;
+    let mut reader = LargeReader::new(alloc, Style::Free);
+    Ok(next_model(alloc, &mut lines, &mut source, &mut reader))
 }
 
 // The status that a letter says: `B` basic, `L` at the lower bound, `U` at the upper bound, any other at 0.
@@ -60,7 +81,7 @@ fn is_value(alloc: Global, value: &Ratio, wanted: &str) -> bool {
 
 // Whether the verdict accepts a certificate, and what this shows is the wanted answer: the text of an optimal value,
 // `infeasible` or `unbounded`.
-pub(crate) fn shows(alloc: Global, verdict: &Verdict, wanted: &str) -> bool {
+fn shows(alloc: Global, verdict: &Verdict, wanted: &str) -> bool {
     match verdict {
         Verdict::Yes(Known::Optimal(value)) => is_value(alloc, value, wanted),
         Verdict::Yes(Known::Infeasible) => are_same(wanted.as_bytes(), b"infeasible"),
@@ -72,20 +93,33 @@ pub(crate) fn shows(alloc: Global, verdict: &Verdict, wanted: &str) -> bool {
 // A model, a basis of it, and the answer that the basis leads to within so many steps.
 type Case = (&'static str, &'static str, u32, &'static str);
 
+// Whether the statuses are lifted within so many steps to a certificate that shows the wanted answer; or whether they
+// are not, where `nothing` is wanted. The first step is tried at the witness, if there is one.
+pub(crate) fn leads_to(
+    alloc: Global,
+    model: &Model,
+    statuses: &[Status],
+    witness: Option<usize>,
+    most_steps: u32,
+    wanted: &str,
+) -> Result<bool, AllocError> {
+    match answer_of_basis(alloc, model, statuses, witness, most_steps)? {
+        Some(lifted) => {
+            let verdict = check(alloc, model, &lifted.certificate)?;
+            Ok(lifted.steps <= most_steps && shows(alloc, &verdict, wanted))
+        }
+        None => Ok(are_same(wanted.as_bytes(), b"nothing")),
+    }
+}
+
 // Whether the case's basis is lifted within its steps to a certificate that shows the wanted answer; or whether it is
 // not, where `nothing` is wanted.
 fn holds(alloc: Global, case: Case) -> Result<bool, AllocError> {
     let (text, letters, most_steps, wanted) = case;
-    let Some(model) = model_of(alloc, text)? else {
-        return Ok(false);
-    };
     let statuses = statuses_of(alloc, letters)?;
-    match answer_of_basis(alloc, &model, &statuses, None, most_steps)? {
-        Some(lifted) => {
-            let verdict = check(alloc, &model, &lifted.certificate)?;
-            Ok(lifted.steps <= most_steps && shows(alloc, &verdict, wanted))
-        }
-        None => Ok(are_same(wanted.as_bytes(), b"nothing")),
+    match model_of(alloc, text)? {
+        Some(model) => leads_to(alloc, &model, &statuses, None, most_steps, wanted),
+        None => Ok(false),
     }
 }
 
@@ -155,7 +189,7 @@ const APART_VALUE: &str =
 const NO_ROWS: &str =
     "NAME none\nROWS\n N cost\nCOLUMNS\n x cost -2\nRHS\nBOUNDS\n UP b x 3\nENDATA\n";
 
-const CASES: [Case; 38] = [
+static CASES: [Case; 38] = [
     // The optimal basis of a model with right sides past 64 bits is lifted to its value.
     (WIDE, "BBLL", 0, WIDE_VALUE),
     (WIDE, "BBLU", 0, WIDE_VALUE),

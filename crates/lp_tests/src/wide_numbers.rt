@@ -29,6 +29,14 @@ const NUMBERS: [(&[u8], &[u8]); 5] = [
     (b"0e99999", b"0"),
 ];
 
+// Why a text is not read as a number; none if it is read.
+fn fault_of(alloc: Global, text: &[u8]) -> Option<WideFault> {
+    match read_wide(alloc, text) {
+        Ok(_) => None,
+        Err(fault) => Some(fault),
+    }
+}
+
 // Numbers past 127 bits are read in each spelling, and written in lowest terms. Texts that are no number, or a power of
 // ten too far away, are refused.
 #[test]
@@ -37,9 +45,9 @@ fn wide_numbers(rt: HostRuntime) {
     for (text, wanted) in NUMBERS {
         assert!(rt; is_written(alloc, text, wanted));
     }
-    assert!(rt; matches!(read_wide(alloc, b"1e16384"), Ok(_)));
-    assert!(rt; matches!(read_wide(alloc, b"10e16384"), Err(WideFault::Far)));
-    assert!(rt; matches!(read_wide(alloc, b"1e-16385"), Err(WideFault::Far)));
-    assert!(rt; matches!(read_wide(alloc, b"1/0"), Err(WideFault::Shape)));
-    assert!(rt; matches!(read_wide(alloc, b"1x"), Err(WideFault::Shape)));
+    assert!(rt; matches!(fault_of(alloc, b"1e16384"), None));
+    assert!(rt; matches!(fault_of(alloc, b"10e16384"), Some(WideFault::Far)));
+    assert!(rt; matches!(fault_of(alloc, b"1e-16385"), Some(WideFault::Far)));
+    assert!(rt; matches!(fault_of(alloc, b"1/0"), Some(WideFault::Shape)));
+    assert!(rt; matches!(fault_of(alloc, b"1x"), Some(WideFault::Shape)));
 }

@@ -1,6 +1,6 @@
 -- As many lines so far were read as were gone over.
 use Rattle.std.proofs.Common.{◌≡◌}
-use Rattle.lp_tests.proofs.lifted_bases.model_of.Given as goal
+use Rattle.lp_tests.proofs.lifted_bases.next_model.Given as goal
 
 -- the reader has read as many lines as were gone over
 abbrev pub invariant-loop : goal.invariant-loop
