@@ -98,7 +98,7 @@ def described():
 
 def used():
     """The same of the commands that the usage names."""
-    tables = r"^pub const (?:COMMANDS|OPTIONS): [^=]*= \[(.*?)^\];"
+    tables = r"^pub static (?:COMMANDS|OPTIONS): [^=]*= \[(.*?)^\];"
     commands, options = re.findall(tables, USAGE.read_text(encoding="utf-8"), re.M | re.S)
     named = {}
     for head in re.findall(r'\(\s*"([\w-]+(?: [A-Z]+)*)",', commands):

@@ -11,17 +11,31 @@ pub fn nearest(
     names: &[&'static str],
 ) -> Result<Option<&'static str>, AllocError> {
     let word = bare(alloc, word)?;
+    nearest_to(alloc, word.as_str(), names)
+}
+
+// The name that is nearest to a bare word, the first of several, if one is near. Memory may run out.
+fn nearest_to(
+    alloc: Global,
+    word: &str,
+    names: &[&'static str],
+) -> Result<Option<&'static str>, AllocError> {
     let mut least = word.len().max(3) / 3;
     let mut found = None;
     for name in names {
-        let other = bare(alloc, name)?;
-        let distance = osa_distance(alloc, word.as_str(), other.as_str())?;
+        let distance = distance(alloc, word, name)?;
         if distance < least || (found.is_none() && distance == least) {
             least = distance;
             found = Some(*name);
         }
     }
     Ok(found)
+}
+
+// How far a name is from a bare word. Memory may run out.
+fn distance(alloc: Global, word: &str, name: &str) -> Result<usize, AllocError> {
+    let name = bare(alloc, name)?;
+    osa_distance(alloc, word, name.as_str())
 }
 
 // The word in lower case, without the dashes before it. Memory may run out.

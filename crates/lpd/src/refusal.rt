@@ -7,8 +7,8 @@ use std::io;
 // A word of a reply, and what it says.
 type Meaning = (&'static str, &'static str);
 
-// The faults of a model's text, but for `M16`: what that says depends on the command.
-const MODEL_FAULTS: [Meaning; 18] = [
+// The faults of a model's text, but for `M3` and `M16`: what these say depends on the form and on the command.
+static MODEL_FAULTS: [Meaning; 17] = [
     (
         "M1",
         "this section may not come here; the order is NAME, OBJSENSE, ROWS, COLUMNS, RHS, RANGES, BOUNDS, ENDATA",
@@ -17,7 +17,6 @@ const MODEL_FAULTS: [Meaning; 18] = [
         "M2",
         "there is no such section; other lines begin with a blank",
     ),
-    ("M3", "these are not the fields of a card of this section"),
     (
         "M4",
         "there is no such type of row; the types are N, L, G and E",
@@ -63,7 +62,7 @@ const MODEL_FAULTS: [Meaning; 18] = [
 ];
 
 // The faults of a basis file.
-const BASIS_FAULTS: [Meaning; 7] = [
+static BASIS_FAULTS: [Meaning; 7] = [
     (
         "B1",
         "this is neither NAME, which comes first, nor ENDATA; a card begins with a blank",
@@ -90,7 +89,6 @@ enum Refusal<'a> {
         number: &'a str,
         of: &'static str,
         why: &'static str,
-        hint: &'static str,
     },
     Name {
         why: &'static str,
@@ -102,14 +100,9 @@ enum Refusal<'a> {
 /// not known, this says where to look. Of a name no control character is written.
 pub fn tell_refused(rt: &HostRuntime, words: &[String], reply: Option<&str>) -> io::Result<()> {
     match refusal_of(words, reply) {
-        Some(
-            Refusal::Line {
-                number,
-                of,
-                why,
-                hint,
-            },
-        ) => eprintln!(rt; "lpd: line {number}{of}: {why}{hint} (status 9)"),
+        Some(Refusal::Line { number, of, why }) => {
+            eprintln!(rt; "lpd: line {number}{of}: {why} (status 9)")
+        }
         Some(Refusal::Name { why, name }) => eprintln!(rt; "lpd: {why} {name:?} (status 9)"),
         None => {
             eprintln!(rt; "lpd: the text was refused; the reason is on standard output (status 9)")
@@ -117,13 +110,29 @@ pub fn tell_refused(rt: &HostRuntime, words: &[String], reply: Option<&str>) -> 
     }
 }
 
-// What was refused, and why, by the reply: `ERR`, a number, a word, and what is refused. None where more is not known.
+// What was refused, and why, by the reply. None where more is not known.
 fn refusal_of<'a>(words: &[String], reply: Option<&'a str>) -> Option<Refusal<'a>> {
-    let Some(CommandLine::Read(command, style)) = command_line_of(words) else {
-        return None;
-    };
-    let (code, said) = reply?.strip_prefix("ERR ")?.split_once(' ')?;
+    let (code, what) = code_and_what(reply?)?;
+    match command_line_of(words) {
+        Some(CommandLine::Read(command, style)) => refusal_by(command, style, code, what),
+        _ => None,
+    }
+}
+
+// The number of an error and what is refused, of a reply: `ERR`, the number, a word, and what is refused.
+fn code_and_what(reply: &str) -> Option<(&str, &str)> {
+    let (code, said) = reply.strip_prefix("ERR ")?.split_once(' ')?;
     let (_, what) = said.split_once(' ')?;
+    Some((code, what))
+}
+
+// What was refused, and why, by the number of the error.
+fn refusal_by<'a>(
+    command: TextCommand<&[u8]>,
+    style: Style,
+    code: &str,
+    what: &'a str,
+) -> Option<Refusal<'a>> {
     match code {
         "5" => Some(unknown(command, what)),
         "8" => of_model(command, style, what),
@@ -158,37 +167,45 @@ fn repeated(name: &str) -> Refusal<'_> {
 // The refusal of a line of the model, from its number and the word of its fault; none for another word.
 fn of_model<'a>(command: TextCommand<&[u8]>, style: Style, what: &'a str) -> Option<Refusal<'a>> {
     let (number, fault) = what.split_once(' ')?;
-    let (why, hint) = match (fault, style) {
-        ("M16", _) => limits(command),
-        ("M3", Style::Free) => (
-            meaning(&MODEL_FAULTS, fault)?,
-            "; a text in fixed form takes --form fixed",
-        ),
-        ("M3", Style::Fixed) => (
-            meaning(&MODEL_FAULTS, fault)?,
-            "; a text in free form takes --form free",
-        ),
-        _ => (meaning(&MODEL_FAULTS, fault)?, ""),
+    let why = match fault {
+        "M3" => other_form(style),
+        "M16" => limits(command),
+        _ => meaning(&MODEL_FAULTS, fault)?,
     };
     Some(Refusal::Line {
         number,
         of: "",
         why,
-        hint,
     })
 }
 
+// That the fields of a card are not those of its section, and how a text in the other form is read.
+fn other_form(style: Style) -> &'static str {
+    match style {
+        Style::Free => {
+            "these are not the fields of a card of this section; a text in fixed form takes --form fixed"
+        }
+        Style::Fixed => {
+            "these are not the fields of a card of this section; a text in free form takes --form free"
+        }
+    }
+}
+
 // What of a model is more than the command takes, and, if there is one, which command takes larger models.
-fn limits(command: TextCommand<&[u8]>) -> (&'static str, &'static str) {
-    let narrow = "more than 256 rows, 512 columns or 16,384 bytes of a line";
+fn limits(command: TextCommand<&[u8]>) -> &'static str {
     match command {
-        TextCommand::SolveWide | TextCommand::CheckWide | TextCommand::BasisWide => (
-            "more than 65,536 rows, 131,072 columns or 16,384 bytes of a line",
-            "",
-        ),
-        TextCommand::Check => (narrow, "; lpd check --wide takes larger models"),
-        TextCommand::Basis => (narrow, "; lpd basis --wide takes larger models"),
-        _ => (narrow, "; lpd solve --wide takes larger models"),
+        TextCommand::SolveWide | TextCommand::CheckWide | TextCommand::BasisWide => {
+            "more than 65,536 rows, 131,072 columns or 16,384 bytes of a line"
+        }
+        TextCommand::Check => {
+            "more than 256 rows, 512 columns or 16,384 bytes of a line; lpd check --wide takes larger models"
+        }
+        TextCommand::Basis => {
+            "more than 256 rows, 512 columns or 16,384 bytes of a line; lpd basis --wide takes larger models"
+        }
+        _ => {
+            "more than 256 rows, 512 columns or 16,384 bytes of a line; lpd solve --wide takes larger models"
+        }
     }
 }
 
@@ -199,39 +216,35 @@ fn of_basis(what: &str) -> Option<Refusal<'_>> {
         number,
         of: " of the basis file",
         why: meaning(&BASIS_FAULTS, fault)?,
-        hint: "",
     })
 }
 
-// The refusal of a line of the certificate, from its number. The first line of what `solve` writes is no such line.
+// The refusal of a line of the certificate, from its number.
 fn of_certificate<'a>(command: TextCommand<&[u8]>, number: &'a str) -> Refusal<'a> {
-    let (why, hint) = match (number, command) {
-        ("1", _) => (
-            "expected OPTIMAL, INFEASIBLE, UNBOUNDED, or CLASH and a column",
-            "; of what lpd solve writes leave out the first line, as sed 1d does",
-        ),
-        ("2", TextCommand::CheckWide) => (
-            "expected END, or a letter of its kind (x, y or r), a name and a number",
-            "; of what lpd solve writes leave out the first line",
-        ),
-        ("2", _) => (
-            "expected END, or a letter of its kind (x, y or r), a name and a number of 127 bits",
-            "; lpd check --wide takes wider ones; of what lpd solve writes leave out the first line",
-        ),
-        (_, TextCommand::CheckWide) => (
-            "expected END, or a letter of its kind (x, y or r), a name and a number",
-            "",
-        ),
-        _ => (
-            "expected END, or a letter of its kind (x, y or r), a name and a number of 127 bits",
-            "; lpd check --wide takes wider ones",
-        ),
-    };
+    let is_wide = matches!(command, TextCommand::CheckWide);
     Refusal::Line {
         number,
         of: " of the certificate",
-        why,
-        hint,
+        why: expected(number, is_wide),
+    }
+}
+
+// What the line of a certificate with this number has to be. The first line of what `solve` writes is no such line.
+fn expected(number: &str, is_wide: bool) -> &'static str {
+    match (number, is_wide) {
+        ("1", _) => {
+            "expected OPTIMAL, INFEASIBLE, UNBOUNDED, or CLASH and a column; of what lpd solve writes leave out the first line, as sed 1d does"
+        }
+        ("2", true) => {
+            "expected END, or a letter of its kind (x, y or r), a name and a number; of what lpd solve writes leave out the first line"
+        }
+        ("2", false) => {
+            "expected END, or a letter of its kind (x, y or r), a name and a number of 127 bits; lpd check --wide takes wider ones; of what lpd solve writes leave out the first line"
+        }
+        (_, true) => "expected END, or a letter of its kind (x, y or r), a name and a number",
+        (_, false) => {
+            "expected END, or a letter of its kind (x, y or r), a name and a number of 127 bits; lpd check --wide takes wider ones"
+        }
     }
 }
 

@@ -3,7 +3,7 @@ use clap::{Arg, ArgAction, Command};
 use std::alloc::{AllocError, Global};
 
 /// The commands with their plain words, and what each does.
-pub const COMMANDS: [(&str, &str); 9] = [
+pub static COMMANDS: [(&str, &str); 9] = [
     ("run", "Run a script of up to 64 sessions"),
     ("solve", "Solve the model of one text"),
     (
@@ -35,7 +35,7 @@ pub const COMMANDS: [(&str, &str); 9] = [
 
 /// The options, below the commands that have them: their names, their values and what they say. A switch has no value: that
 /// is empty.
-pub const OPTIONS: [(&str, &str, &str, &str); 5] = [
+pub static OPTIONS: [(&str, &str, &str, &str); 5] = [
     (
         "Options of run and serve",
         "workers",
@@ -89,10 +89,10 @@ pub fn usage(alloc: Global) -> Result<String, AllocError> {
         .after_help(STATUSES)
         .disable_help_flag(true)
         .disable_help_subcommand(true);
-    for (name, what) in COMMANDS {
+    for &(name, what) in &COMMANDS {
         program = program.subcommand(Command::new(alloc, name).about(what))?;
     }
-    for (commands, name, value, what) in OPTIONS {
+    for &(commands, name, value, what) in &OPTIONS {
         let option = Arg::new(alloc, name)
             .long(name)
             .help(what)

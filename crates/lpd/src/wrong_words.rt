@@ -8,59 +8,76 @@ use std::alloc::{AllocError, Global};
 use std::io;
 
 // The words that are answered by a notice.
-const NOTICES: [&str; 2] = ["--help", "--version"];
+static NOTICES: [&str; 2] = ["--help", "--version"];
 
 /// Writes on standard error that the words are no command line, and behind that line why. Where memory runs out, it says
 /// no more than what it has said by then.
 pub fn tell_words(rt: &HostRuntime, alloc: Global, words: &[String]) -> io::Result<()> {
     eprintln!(rt; "lpd: bad command line")?;
     let (Some(first), Some(fault)) = (words.first(), word_fault(words)) else {
-        eprintln!(rt; "lpd: there is no word")?;
-        let text = usage(alloc)?;
-        return eprint!(rt; "{text}");
+        return tell_no_word(rt, alloc);
     };
     let command = command_of(first.as_str());
-    let fault = fault_behind(command, words, fault);
-    let Ok(why) = reason_and_hint(alloc, command, fault) else {
-        return Ok(());
-    };
-    eprintln!(rt; "lpd: {why}")?;
+    tell_reason(rt, alloc, command, fault_behind(command, words, fault))?;
     if let Some(command) = command {
-        let line = line_of(alloc, command)?;
-        eprintln!(rt; "Usage: {line}")?;
+        tell_usage(rt, alloc, command)?;
     }
     eprintln!(rt; "lpd --help shows the commands, their options and the statuses")
 }
 
-// A command: its name, and its plain words.
+// Writes on standard error that there is no word, and the whole usage. Memory may run out.
+fn tell_no_word(rt: &HostRuntime, alloc: Global) -> io::Result<()> {
+    eprintln!(rt; "lpd: there is no word")?;
+    let text = usage(alloc)?;
+    eprint!(rt; "{text}")
+}
+
+// Writes on standard error what the fault of a command line is, and behind it, where a word is near, whether that was
+// meant. Where memory runs out, it writes nothing.
+fn tell_reason(
+    rt: &HostRuntime,
+    alloc: Global,
+    command: Option<Head>,
+    fault: WordFault<&[u8]>,
+) -> io::Result<()> {
+    let why = reason(alloc, command, fault)?;
+    let hint = hint(alloc, command, fault)?;
+    eprintln!(rt; "lpd: {why}{hint}")
+}
+
+// Writes on standard error the usage line of a command: its name, the words that are no options, and its options. Memory
+// may run out.
+fn tell_usage(rt: &HostRuntime, alloc: Global, command: Head) -> io::Result<()> {
+    let mut line = String::from_str(alloc, command.line)?;
+    push_options(alloc, &mut line, command.name)?;
+    eprintln!(rt; "Usage: lpd {line}")
+}
+
+// A command: its name, its plain words, and both as one line of the usage.
 #[derive(Clone, Copy)]
 struct Head {
+    line: &'static str,
     name: &'static str,
     plain: &'static str,
 }
 
 // A command line of the usage, split into the command's name and the words behind it that are no options.
-fn head_of(command: &'static str) -> Head {
-    match command.split_once(' ') {
-        Some((name, plain)) => Head { name, plain },
-        None => Head {
-            name: command,
-            plain: "",
-        },
-    }
+fn head_of(line: &'static str) -> Head {
+    let (name, plain) = line.split_once(' ').unwrap_or((line, ""));
+    Head { line, name, plain }
 }
 
 // The name of the command or notice, and the words behind it in the usage; none where there is neither.
 fn command_of(word: &str) -> Option<Head> {
-    for (command, _) in COMMANDS {
-        let head = head_of(command);
+    for (line, _) in &COMMANDS {
+        let head = head_of(line);
         if head.name == word {
             return Some(head);
         }
     }
-    for name in NOTICES {
-        if name == word {
-            return Some(Head { name, plain: "" });
+    for notice in &NOTICES {
+        if *notice == word {
+            return Some(head_of(notice));
         }
     }
     None
@@ -87,20 +104,15 @@ fn is_of(command: &str, heading: &str) -> bool {
         .any(|word| word.trim_end_matches(',') == command)
 }
 
-// The usage line of a command: its name, the words that are no options, and its options. Memory may run out.
-fn line_of(alloc: Global, command: Head) -> Result<String, AllocError> {
-    let mut line = format!(in alloc; "lpd {}", command.name)?;
-    if command.plain != "" {
-        line.push_str(" ")?;
-        line.push_str(command.plain)?;
-    }
-    for (heading, name, value, _) in OPTIONS {
-        if is_of(command.name, heading) {
+// Puts the options of a command behind its usage line. Memory may run out.
+fn push_options(alloc: Global, line: &mut String, command: &str) -> Result<(), AllocError> {
+    for (heading, name, value, _) in &OPTIONS {
+        if is_of(command, heading) {
             let option = option_of(alloc, name, value)?;
             line.push_str(option.as_str())?;
         }
     }
-    Ok(line)
+    Ok(())
 }
 
 // An option as a line of the usage shows it, behind a blank: ` [--NAME VALUE]`, or ` [--NAME]` for a switch, whose
@@ -110,19 +122,6 @@ fn option_of(alloc: Global, name: &str, value: &str) -> Result<String, AllocErro
         return format!(in alloc; " [--{name}]");
     }
     format!(in alloc; " [--{name} {value}]")
-}
-
-// The sentence that says what the fault of a command line is, and behind it, where a word is near, whether that was
-// meant. Memory may run out.
-fn reason_and_hint(
-    alloc: Global,
-    command: Option<Head>,
-    fault: WordFault<&[u8]>,
-) -> Result<String, AllocError> {
-    let mut said = reason(alloc, command, fault)?;
-    let hint = hint(alloc, command, fault)?;
-    said.push_str(hint.as_str())?;
-    Ok(said)
 }
 
 // The sentence that says what the fault of a command line is, with the word that is at fault. Memory may run out.
@@ -192,9 +191,12 @@ struct Setting {
 
 // The value and the description of the option with this name, which has no dashes; none for another name.
 fn setting_of(option: &str) -> Option<Setting> {
-    for (_, name, value, says) in OPTIONS {
-        if name == option {
-            return Some(Setting { value, says });
+    for (_, name, value, says) in &OPTIONS {
+        if *name == option {
+            return Some(Setting {
+                value: *value,
+                says: *says,
+            });
         }
     }
     None
@@ -247,8 +249,8 @@ fn meant(alloc: Global, word: &str, names: &[&'static str]) -> Result<String, Al
 // The question whether the command nearest to the word was meant, if one is near, or nothing. Memory may run out.
 fn meant_command(alloc: Global, word: &str) -> Result<String, AllocError> {
     let mut names = Vec::new(alloc);
-    for (command, _) in COMMANDS {
-        names.push(head_of(command).name)?;
+    for (line, _) in &COMMANDS {
+        names.push(head_of(line).name)?;
     }
     names.extend_from_slice(&NOTICES)?;
     meant(alloc, word, names.as_slice())
@@ -276,9 +278,9 @@ fn nearest_option(
     name: &str,
 ) -> Result<Option<&'static str>, AllocError> {
     let mut names = Vec::new(alloc);
-    for (heading, option, _, _) in OPTIONS {
+    for (heading, option, _, _) in &OPTIONS {
         if is_of(command, heading) {
-            names.push(option)?;
+            names.push(*option)?;
         }
     }
     nearest(alloc, name, names.as_slice())
