@@ -93,16 +93,25 @@ pub fn usage(alloc: Global) -> Result<String, AllocError> {
         program = program.subcommand(Command::new(alloc, name).about(what))?;
     }
     for &(commands, name, value, what) in &OPTIONS {
-        let option = Arg::new(alloc, name)
-            .long(name)
-            .help(what)
-            .help_heading(commands);
-        let option = if value == "" {
-            option.action(ArgAction::SetTrue)
-        } else {
-            option.value_name(value)
-        };
-        program = program.arg(option)?;
+        program = program.arg(argument(alloc, commands, name, value, what))?;
     }
     program.render_help()
+}
+
+// An option below the commands that have it, with its value, or as a switch where that is empty.
+fn argument(
+    alloc: Global,
+    commands: &'static str,
+    name: &'static str,
+    value: &'static str,
+    what: &'static str,
+) -> Arg<'static> {
+    let option = Arg::new(alloc, name)
+        .long(name)
+        .help(what)
+        .help_heading(commands);
+    if value == "" {
+        return option.action(ArgAction::SetTrue);
+    }
+    option.value_name(value)
 }
