@@ -4,17 +4,16 @@ ghost use Rattle.spec_model.specs.Model.{height, width};
 ghost use Rattle.spec_check.specs.Certificate.{IsFor};
 ghost use Rattle.lp_lift.specs.Ends.{EndsFor};
 
-use crate::kernel::{Preparation, Prepared, prepare};
+use crate::kernel::{Kernel, Preparation, Prepared, prepare};
 use crate::lifted::{Lifted, Step, lifted_from};
 use crate::moves::{
     Entering, Leaving, advance, blocked, dual_entering, entering_at, exchange, flip_wrong,
     furthest_outside, leaving_at, most_wrong,
 };
 use crate::near::near_fraction;
-use crate::numbers::numbers;
+use crate::numbers::{multipliers, numbers};
 use crate::program::{Program, program_of};
 use crate::shifts::shift;
-use crate::sides::of_logicals;
 use crate::solving::{solve_columns, solve_rows};
 use crate::standing::Room;
 use crate::statuses::{fitting_statuses, standings};
@@ -76,24 +75,24 @@ impl Drop for Run {
     }
 }
 
-// The exact point and multipliers at the basis of a run, with the rooms and reduced costs in floats; `None` where the
-// right sides are too wide or lifting found no solution of the basis' equations.
+// The exact point and multipliers at a basis and by these costs, with the rooms and reduced costs in floats; `None`
+// where the right sides are too wide or lifting found no solution of the basis' equations.
 fn found_at(
     alloc: Global,
     program: &Program<'_>,
     prepared: &Prepared,
-    run: &Run,
+    statuses: &[Status],
+    costs: &[Frac],
 ) -> Result<Option<Found>, AllocError> {
-    let values = standings(alloc, program, &run.statuses)?;
+    let values = standings(alloc, program, statuses)?;
     let Some(columns) = solve_columns(alloc, program, prepared, &values)? else {
         return Ok(None);
     };
-    let Some(rows) = solve_rows(alloc, program, prepared, &run.costs)? else {
+    let Some(rows) = solve_rows(alloc, program, prepared, costs)? else {
         return Ok(None);
     };
     let rooms = rooms(alloc, program, prepared, &columns, &values)?;
-    let kernel = &prepared.kernel;
-    let reduced = all_reduced(alloc, program, kernel, &run.statuses, &rows, &run.costs)?;
+    let reduced = all_reduced(alloc, program, &prepared.kernel, statuses, &rows, costs)?;
     Ok(Some(Found {
         columns,
         rows,
@@ -103,27 +102,14 @@ fn found_at(
     }))
 }
 
-// The other way.
-fn back(way: Way) -> Way {
-    match way {
-        Way::Up => Way::Down,
-        Way::Down => Way::Up,
-    }
-}
-
-// The fraction 1 up, and -1 down.
-fn unit(way: Way) -> Frac {
-    match way {
-        Way::Up => one(),
-        Way::Down => neg(one()),
-    }
-}
-
 // Numbers of all columns: 1 (up) or -1 (down) for column `k`, and 0 for each other one.
 fn units(alloc: Global, len: usize, k: usize, way: Way) -> Result<Vec<Frac>, AllocError> {
     let mut list = Vec::from_elem(alloc, zero(), len)?;
     if let Some(number) = list.get_mut(k) {
-        *number = unit(way);
+        *number = match way {
+            Way::Up => one(),
+            Way::Down => neg(one()),
+        };
     }
     Ok(list)
 }
@@ -143,29 +129,6 @@ fn point(
     numbers(alloc, program.model.cols(), places, solved, false, others)
 }
 
-// The multipliers of all rows: those of a solution or their opposites, and by these costs where a logical column is basic.
-fn multipliers(
-    alloc: Global,
-    program: &Program<'_>,
-    prepared: &Prepared,
-    solved: &Solved,
-    is_opposite: bool,
-    costs: &[Frac],
-) -> Result<Ratios, AllocError>
-    ensures { IfOk result (λ y. length y ≡ height program.now.model.now) }
-{
-    let others = of_logicals(alloc, program, costs)?;
-    let places = &prepared.kernel.row_places;
-    numbers(
-        alloc,
-        program.model.rows(),
-        places,
-        solved,
-        is_opposite,
-        &others,
-    )
-}
-
 // The end with the certificate of an optimum: the basis' point, and its multipliers by the program's costs.
 fn optimal(
     alloc: Global,
@@ -176,7 +139,8 @@ fn optimal(
     ensures { IfOk result (EndsFor program.now.model.now) }
 {
     let x = point(alloc, program, prepared, &found.columns, &found.values)?;
-    let y = multipliers(alloc, program, prepared, &found.rows, false, &program.costs)?;
+    let kernel = &prepared.kernel;
+    let y = multipliers(alloc, program, kernel, &found.rows, false, &program.costs)?;
     Ok(Step::Ended(Certificate::Optimal { x, y }))
 }
 
@@ -185,22 +149,17 @@ fn optimal(
 fn infeasible(
     alloc: Global,
     program: &Program<'_>,
-    prepared: &Prepared,
+    kernel: &Kernel,
     solved: &Solved,
     leaving: Leaving,
     columns: usize,
 ) -> Result<Step, AllocError>
     ensures { IfOk result (EndsFor program.now.model.now) }
 {
-    let outside = units(alloc, columns, leaving.column, back(leaving.way))?;
-    let y = multipliers(
-        alloc,
-        program,
-        prepared,
-        solved,
-        leaving.is_below(),
-        &outside,
-    )?;
+    let is_below = leaving.is_below();
+    let back = if is_below { Way::Down } else { Way::Up };
+    let outside = units(alloc, columns, leaving.column, back)?;
+    let y = multipliers(alloc, program, kernel, solved, is_below, &outside)?;
     Ok(Step::Ended(Certificate::Infeasible { y }))
 }
 
@@ -210,36 +169,24 @@ fn dual_step(
     alloc: Global,
     program: &Program<'_>,
     prepared: &Prepared,
-    run: &mut Run,
+    statuses: &mut [Status],
     found: &Found,
     leaving: Leaving,
 ) -> Result<Step, AllocError>
     ensures { IfOk result (EndsFor program.now.model.now) }
 {
     let kernel = &prepared.kernel;
-    let costs = units(alloc, run.statuses.len(), leaving.column, Way::Up)?;
+    let costs = units(alloc, statuses.len(), leaving.column, Way::Up)?;
     let Some(solved) = solve_rows(alloc, program, prepared, &costs)? else {
         return Ok(Step::Lost);
     };
-    let rates = all_reduced(alloc, program, kernel, &run.statuses, &solved, &costs)?;
-    match dual_entering(program, &run.statuses, leaving, &found.reduced, &rates) {
+    let rates = all_reduced(alloc, program, kernel, statuses, &solved, &costs)?;
+    match dual_entering(program, statuses, leaving, &found.reduced, &rates) {
         Some(entering) => {
-            exchange(
-                &mut run.statuses,
-                entering,
-                leaving.column,
-                leaving.is_below(),
-            );
+            exchange(statuses, entering, leaving.column, leaving.is_below());
             Ok(Step::Moved)
         }
-        None => infeasible(
-            alloc,
-            program,
-            prepared,
-            &solved,
-            leaving,
-            run.statuses.len(),
-        ),
+        None => infeasible(alloc, program, kernel, &solved, leaving, statuses.len()),
     }
 }
 
@@ -273,13 +220,13 @@ fn primal_step(
     alloc: Global,
     program: &Program<'_>,
     prepared: &Prepared,
-    run: &mut Run,
+    statuses: &mut [Status],
     found: &Found,
     entering: Entering,
 ) -> Result<Step, AllocError>
     ensures { IfOk result (EndsFor program.now.model.now) }
 {
-    let moves = units(alloc, run.statuses.len(), entering.column, entering.way)?;
+    let moves = units(alloc, statuses.len(), entering.column, entering.way)?;
     let Some(solved) = solve_columns(alloc, program, prepared, &moves)? else {
         return Ok(Step::Lost);
     };
@@ -287,72 +234,16 @@ fn primal_step(
     let range = range(program, entering.column);
     match blocked(range, &found.rooms, &rates) {
         Some(block) => {
-            advance(&mut run.statuses, entering, block);
+            advance(statuses, entering, block);
             Ok(Step::Moved)
         }
         None => unbounded(alloc, program, prepared, found, &solved, &moves),
     }
 }
 
-// Sets the run's costs to those of the program again.
-fn restore(alloc: Global, program: &Program<'_>, run: &mut Run) -> Result<(), AllocError> {
-    run.costs = Vec::from_slice(alloc, &program.costs)?;
-    run.are_shifted = false;
-    Ok(())
-}
-
-// One step from a basis with a column outside of its bounds: flips of columns with wrong reduced costs, else shifts of
-// costs, else a step of the dual method.
-fn toward_point(
-    alloc: Global,
-    program: &Program<'_>,
-    prepared: &Prepared,
-    run: &mut Run,
-    found: &Found,
-    leaving: Leaving,
-) -> Result<Step, AllocError>
-    ensures { IfOk result (EndsFor program.now.model.now) }
-{
-    if flip_wrong(program, &mut run.statuses, &found.reduced) {
-        return Ok(Step::Moved);
-    }
-    if shift(&mut run.costs, &run.statuses, &found.reduced) {
-        run.are_shifted = true;
-        return Ok(Step::Moved);
-    }
-    dual_step(alloc, program, prepared, run, found, leaving)
-}
-
-// One step that begins at column `k`: of the dual method if the column is outside of its bounds; of the primal method
-// if its reduced cost is wrong, and no column is outside. Otherwise none.
-fn step_at_column(
-    alloc: Global,
-    program: &Program<'_>,
-    prepared: &Prepared,
-    run: &mut Run,
-    found: &Found,
-    k: usize,
-) -> Result<Option<Step>, AllocError>
-    ensures { IfOk result (λ o. IfSome o (EndsFor program.now.model.now)) }
-{
-    if let Some(leaving) = leaving_at(&found.rooms, k) {
-        let step = dual_step(alloc, program, prepared, run, found, leaving)?;
-        return Ok(Some(step));
-    }
-    if furthest_outside(&found.rooms).is_some() {
-        return Ok(None);
-    }
-    match entering_at(program, &run.statuses, &found.reduced, k) {
-        Some(entering) => {
-            let step = primal_step(alloc, program, prepared, run, found, entering)?;
-            Ok(Some(step))
-        }
-        None => Ok(None),
-    }
-}
-
-// One step from a basis: at the run's witness, if it has one that allows a step, else by the rules. The witness is used
-// up.
+// One step from a basis: at the run's witness, if it has one that allows a step, else by the rules. A witness that is
+// outside of its bounds takes a step of the dual method. One whose reduced cost is wrong takes a step of the primal
+// method, if no column is outside. The witness is used up.
 fn step_at(
     alloc: Global,
     program: &Program<'_>,
@@ -365,16 +256,21 @@ fn step_at(
     let witness = run.witness;
     run.witness = None;
     if let Some(k) = witness {
-        if let Some(step) = step_at_column(alloc, program, prepared, run, found, k)? {
-            return Ok(step);
+        if let Some(leaving) = leaving_at(&found.rooms, k) {
+            return dual_step(alloc, program, prepared, &mut run.statuses, found, leaving);
+        }
+        if furthest_outside(&found.rooms).is_none() {
+            if let Some(entering) = entering_at(program, &run.statuses, &found.reduced, k) {
+                return primal_step(alloc, program, prepared, &mut run.statuses, found, entering);
+            }
         }
     }
     step_by_rules(alloc, program, prepared, run, found)
 }
 
-// One step from a basis, the first of these that applies: flips at the run's start; a step toward the bounds, if a
-// column is outside; the program's costs again, if they were shifted; a step of the primal method; the end with an
-// optimum.
+// One step from a basis, the first of these that applies: flips of columns with wrong reduced costs, at the run's start
+// or if a column is outside of its bounds; shifts of costs, if one is outside, else a step of the dual method; the
+// program's costs again, if they were shifted; a step of the primal method; the end with an optimum.
 fn step_by_rules(
     alloc: Global,
     program: &Program<'_>,
@@ -384,18 +280,25 @@ fn step_by_rules(
 ) -> Result<Step, AllocError>
     ensures { IfOk result (EndsFor program.now.model.now) }
 {
-    if run.steps == 0 && flip_wrong(program, &mut run.statuses, &found.reduced) {
+    let outside = furthest_outside(&found.rooms);
+    let may_flip = run.steps == 0 || outside.is_some();
+    if may_flip && flip_wrong(program, &mut run.statuses, &found.reduced) {
         return Ok(Step::Moved);
     }
-    if let Some(leaving) = furthest_outside(&found.rooms) {
-        return toward_point(alloc, program, prepared, run, found, leaving);
+    if let Some(leaving) = outside {
+        if shift(&mut run.costs, &run.statuses, &found.reduced) {
+            run.are_shifted = true;
+            return Ok(Step::Moved);
+        }
+        return dual_step(alloc, program, prepared, &mut run.statuses, found, leaving);
     }
     if run.are_shifted {
-        restore(alloc, program, run)?;
+        run.costs = Vec::from_slice(alloc, &program.costs)?;
+        run.are_shifted = false;
         return Ok(Step::Moved);
     }
     match most_wrong(program, &run.statuses, &found.reduced) {
-        Some(entering) => primal_step(alloc, program, prepared, run, found, entering),
+        Some(entering) => primal_step(alloc, program, prepared, &mut run.statuses, found, entering),
         None => optimal(alloc, program, prepared, found),
     }
 }
@@ -410,7 +313,7 @@ fn step_from(alloc: Global, program: &Program<'_>, run: &mut Run) -> Result<Step
         Preparation::Mended => return Ok(Step::Moved),
         Preparation::Past => return Ok(Step::Lost),
     };
-    match found_at(alloc, program, &prepared, run)? {
+    match found_at(alloc, program, &prepared, &run.statuses, &run.costs)? {
         Some(found) => step_at(alloc, program, &prepared, run, &found),
         None => Ok(Step::Lost),
     }

@@ -111,29 +111,26 @@ impl Drop for WholeKernel {
     }
 }
 
-// The digit nearest to 0 that is congruent to a number modulo the prime, and the quotient by the prime of the rest. Of
-// a number nearer than the prime to 2^127 or -2^127 both may be wrong.
-fn low_digit(n: i128) -> (i64, i128) {
-    let prime = i128::from(PRIME);
-    let half = prime / 2;
-    let rest = n.wrapping_add(half).rem_euclid(prime).wrapping_sub(half);
-    let above = n.wrapping_sub(rest) / prime;
-    (i64::try_from(rest).unwrap_or(0), above)
-}
-
 // Adds the lowest digit of a number to the lower matrix, and what is above it to the upper one; a 0 goes into neither.
-// False where what is above is past 64 bits: then it is not added.
+// The digit is the one nearest to 0 that is congruent to the number modulo the prime. False where what is above is past
+// 64 bits: then it is not added. Of a number nearer than the prime to 2^127 or -2^127 both may be wrong.
 fn put_number(
     low: &mut Lines<i64>,
     high: &mut Lines<i64>,
     place: usize,
     number: i128,
 ) -> Result<bool, AllocError> {
-    let (digit, above) = low_digit(number);
+    let prime = i128::from(PRIME);
+    let half = prime / 2;
+    let rest = number
+        .wrapping_add(half)
+        .rem_euclid(prime)
+        .wrapping_sub(half);
+    let digit = i64::try_from(rest).unwrap_or(0);
     if digit != 0 {
         low.put(place, digit)?;
     }
-    match i64::try_from(above) {
+    match i64::try_from(number.wrapping_sub(rest) / prime) {
         Ok(0) => Ok(true),
         Ok(above) => {
             high.put(place, above)?;
@@ -167,8 +164,8 @@ fn put_column(
     Ok(true)
 }
 
-// The kernel's columns in whole numbers, as one or two matrices of digits. None where two digits do not suffice for a
-// number.
+// The kernel's columns in whole numbers, as one or two matrices of digits: without the upper one where it has no
+// numbers. None where two digits do not suffice for a number.
 fn columns_of(
     alloc: Global,
     program: &Program<'_>,
@@ -183,7 +180,14 @@ fn columns_of(
             return Ok(None);
         }
     }
-    Ok(Some(levels(alloc, low, high)?))
+    let mut levels = Vec::new(alloc);
+    levels.push(low)?;
+    if high.size() == 0 {
+        drop(high);
+    } else {
+        levels.push(high)?;
+    }
+    Ok(Some(levels))
 }
 
 // How many bits the largest sum of a line's absolute values takes.
@@ -204,18 +208,6 @@ fn magnitude(lines: &Lines<i64>, k: usize) -> u128 {
     sum
 }
 
-// The two matrices of digits as a list, without the upper one where it has no numbers.
-fn levels(alloc: Global, low: Lines<i64>, high: Lines<i64>) -> Result<Vec<Lines<i64>>, AllocError> {
-    let mut list = Vec::new(alloc);
-    list.push(low)?;
-    if high.size() == 0 {
-        drop(high);
-    } else {
-        list.push(high)?;
-    }
-    Ok(list)
-}
-
 // How many bits a sum may take that is multiplied by a digit.
 const MOST_BITS: usize = 64;
 
@@ -230,7 +222,12 @@ fn bits_of(levels: &[Lines<i64>]) -> usize {
 
 // Whether there are two levels at most, and the sums of a line's absolute values take at most 64 bits in each.
 fn are_short(levels: &[Lines<i64>]) -> bool {
-    levels.len() <= 2 && levels.iter().all(|level| most_bits(level) <= MOST_BITS)
+    for level in levels {
+        if most_bits(level) > MOST_BITS {
+            return false;
+        }
+    }
+    levels.len() <= 2
 }
 
 // The transposed matrices of all levels: the digits by row instead of by column.
@@ -266,48 +263,22 @@ pub(crate) fn whole_from(
     })
 }
 
-// The kernel in whole numbers of about two digits; none where the numbers or the scales of the rows are too large for
-// that.
-fn short_whole(
-    alloc: Global,
-    program: &Program<'_>,
-    kernel: &Kernel,
-) -> Result<Option<WholeKernel>, AllocError> {
-    let Some(scales) = row_scales(alloc, program, kernel)? else {
-        return Ok(None);
-    };
-    match columns_of(alloc, program, kernel, &scales)? {
-        Some(columns) => Ok(Some(whole_from(alloc, kernel, Scales::Short(scales), columns)?)),
-        None => Ok(None),
-    }
-}
-
-/// A kernel with whole numbers. There is none where a row's scale is very wide.
+/// A kernel with whole numbers: of about two digits, where the numbers and the scales of the rows are not too large for
+/// that, else of any width. There is none where a row's scale is very wide.
 pub(crate) fn whole_of(
     alloc: Global,
     program: &Program<'_>,
     kernel: &Kernel,
 ) -> Result<Option<WholeKernel>, AllocError> {
-    match short_whole(alloc, program, kernel)? {
-        Some(whole) => Ok(Some(whole)),
-        None => long_whole(alloc, program, kernel),
+    if let Some(scales) = row_scales(alloc, program, kernel)? {
+        if let Some(columns) = columns_of(alloc, program, kernel, &scales)? {
+            return Ok(Some(whole_from(alloc, kernel, Scales::Short(scales), columns)?));
+        }
     }
+    long_whole(alloc, program, kernel)
 }
 
 // ---- factors
-
-// The kernel's columns modulo the prime, from the lowest digits of their numbers.
-fn residues_of(
-    alloc: Global,
-    kernel: &Kernel,
-    low: &Lines<i64>,
-) -> Result<Lines<Residue>, AllocError> {
-    let mut lines = Lines::new(alloc);
-    for k in 0..kernel.columns.len() {
-        put_residues(&mut lines, low.line(k))?;
-    }
-    Ok(lines)
-}
 
 // Adds a column to the lines, with its numbers modulo the prime.
 fn put_residues(lines: &mut Lines<Residue>, line: &[Entry<i64>]) -> Result<(), AllocError> {
@@ -317,21 +288,24 @@ fn put_residues(lines: &mut Lines<Residue>, line: &[Entry<i64>]) -> Result<(), A
     lines.end()
 }
 
-/// The factors of a kernel modulo the prime, or its rows and columns without a pivot where it is singular.
+/// The factors of a kernel modulo the prime, from the lowest digits of its columns' numbers; or its rows and columns
+/// without a pivot where it is singular.
 pub(crate) fn factored(
     alloc: Global,
     kernel: &Kernel,
     whole: &WholeKernel,
 ) -> Result<Factored<Residue>, AllocError> {
-    let columns = match whole.columns.first() {
-        Some(low) => residues_of(alloc, kernel, low)?,
-        None => Lines::new(alloc),
-    };
+    let mut columns = Lines::new(alloc);
+    if let Some(low) = whole.columns.first() {
+        for k in 0..kernel.columns.len() {
+            put_residues(&mut columns, low.line(k))?;
+        }
+    }
     factorize(alloc, kernel.rows.len(), &columns)
 }
 
-/// Makes the structural columns at these positions of the kernel nonbasic, and the logical columns of the rows at these
-/// positions basic.
+/// Makes the structural columns at these positions of the kernel nonbasic, each at its lower bound, else at its upper
+/// one, else at 0; and the logical columns of the rows at these positions basic.
 pub(crate) fn mend(
     program: &Program<'_>,
     kernel: &Kernel,
@@ -341,7 +315,8 @@ pub(crate) fn mend(
 ) {
     for place in columns {
         if let Some(j) = kernel.columns.get(*place) {
-            rest(program, statuses, *j);
+            let status = resting(program.lower(*j), program.upper(*j));
+            put_status(statuses, *j, status);
         }
     }
     for place in rows {
@@ -350,13 +325,6 @@ pub(crate) fn mend(
             put_status(statuses, logical, Status::Basic);
         }
     }
-}
-
-/// Makes column `k` nonbasic: at its lower bound, else at its upper one, else at 0.
-pub(crate) fn rest(program: &Program<'_>, statuses: &mut [Status], k: usize) {
-    let lower = program.lower(k);
-    let upper = program.upper(k);
-    put_status(statuses, k, resting(lower, upper));
 }
 
 /// What is at hand of a basis whose kernel is regular.

@@ -2,7 +2,7 @@
 use crate::program::Program;
 use crate::standing::{FREE, Room};
 use crate::statuses::{is_basic_at, put_status, status_at};
-use lp_frac::{Frac, are_same};
+use lp_frac::are_same;
 use spec_pivot::{Status, Way};
 
 /// A basic column outside of its bounds, and the way to the bound that it passed: up where it is below the lower one.
@@ -35,14 +35,6 @@ pub(crate) enum Block {
     Own,
 }
 
-// Whether both bounds exist and are equal.
-fn is_fixed(lower: Option<Frac>, upper: Option<Frac>) -> bool {
-    match (lower, upper) {
-        (Some(lower), Some(upper)) => are_same(lower, upper),
-        _ => false,
-    }
-}
-
 /// The number at `k`, 0 where there is none.
 pub(crate) fn float_at(list: &[f64], k: usize) -> f64 {
     match list.get(k) {
@@ -52,10 +44,12 @@ pub(crate) fn float_at(list: &[f64], k: usize) -> f64 {
 }
 
 // Whether a reduced cost has a sign by which a column that is neither basic nor fixed should move from its bound, or
-// from 0.
+// from 0. A column is fixed if both bounds exist and are equal.
 fn is_wrong(program: &Program<'_>, statuses: &[Status], k: usize, reduced: f64) -> bool {
-    if is_fixed(program.lower(k), program.upper(k)) {
-        return false;
+    if let (Some(lower), Some(upper)) = (program.lower(k), program.upper(k)) {
+        if are_same(lower, upper) {
+            return false;
+        }
     }
     match status_at(statuses, k) {
         Status::Basic => false,
@@ -63,11 +57,6 @@ fn is_wrong(program: &Program<'_>, statuses: &[Status], k: usize, reduced: f64) 
         Status::AtUpper => reduced > 0.0,
         Status::AtZero => reduced != 0.0,
     }
-}
-
-// Whether a column has both bounds.
-fn is_boxed(program: &Program<'_>, k: usize) -> bool {
-    program.lower(k).is_some() && program.upper(k).is_some()
 }
 
 // Flips a column that is at a bound to its other one; any other column stays as it is.
@@ -85,7 +74,8 @@ fn flip(statuses: &mut [Status], k: usize) {
 pub(crate) fn flip_wrong(program: &Program<'_>, statuses: &mut [Status], reduced: &[f64]) -> bool {
     let mut is_any = false;
     for (k, cost) in reduced.iter().enumerate() {
-        if is_boxed(program, k) && is_wrong(program, statuses, k, *cost) {
+        let is_boxed = program.lower(k).is_some() && program.upper(k).is_some();
+        if is_boxed && is_wrong(program, statuses, k, *cost) {
             flip(statuses, k);
             is_any = true;
         }
@@ -243,18 +233,14 @@ fn room_at(rooms: &[Room], k: usize) -> Room {
     }
 }
 
-// `AtLower` if so said, else `AtUpper`.
-fn at_bound(at_lower: bool) -> Status {
-    if at_lower {
+/// Makes the entering column basic, and the leaving one nonbasic at its lower or upper bound.
+pub(crate) fn exchange(statuses: &mut [Status], entering: usize, leaving: usize, at_lower: bool) {
+    let bound = if at_lower {
         Status::AtLower
     } else {
         Status::AtUpper
-    }
-}
-
-/// Makes the entering column basic, and the leaving one nonbasic at its lower or upper bound.
-pub(crate) fn exchange(statuses: &mut [Status], entering: usize, leaving: usize, at_lower: bool) {
-    put_status(statuses, leaving, at_bound(at_lower));
+    };
+    put_status(statuses, leaving, bound);
     put_status(statuses, entering, Status::Basic);
 }
 

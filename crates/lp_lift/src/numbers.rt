@@ -1,8 +1,10 @@
 // The numbers of a certificate.
 ghost use Rattle.std.specs.Prelude.{◌≡◌, IfOk, length};
+ghost use Rattle.spec_model.specs.Model.{height};
 
-use crate::kernel::place_at;
-use crate::sides::part;
+use crate::kernel::{Kernel, place_at};
+use crate::program::Program;
+use crate::sides::{of_logicals, part};
 use lp_check::wide::Ratios;
 use lp_frac::Frac;
 use lp_natural::Natural;
@@ -73,4 +75,21 @@ pub(crate) fn other_numbers(
         list.push(number)?;
     }
     Ok(list)
+}
+
+/// The multipliers of all rows: those of a solution or their opposites, and by these costs where a logical column is
+/// basic.
+pub(crate) fn multipliers(
+    alloc: Global,
+    program: &Program<'_>,
+    kernel: &Kernel,
+    solved: &Solved,
+    is_opposite: bool,
+    costs: &[Frac],
+) -> Result<Ratios, AllocError>
+    ensures { IfOk result (λ y. length y ≡ height program.now.model.now) }
+{
+    let others = of_logicals(alloc, program, costs)?;
+    let len = program.model.rows();
+    numbers(alloc, len, &kernel.row_places, solved, is_opposite, &others)
 }

@@ -167,22 +167,6 @@ pub(crate) fn common_denominator(fractions: &[Frac]) -> Option<i128> {
     Some(scale)
 }
 
-// The fractions times a scale, of which each denominator is a divisor; none where one takes more than 125 bits.
-fn whole_numbers(
-    alloc: Global,
-    fractions: &[Frac],
-    scale: i128,
-) -> Result<Option<Vec<i128>>, AllocError> {
-    let mut numbers = Vec::with_capacity(alloc, fractions.len())?;
-    for v in fractions {
-        match times_scale(*v, scale) {
-            Some(number) if number.unsigned_abs() >> 125 == 0 => numbers.push(number)?,
-            Some(_) | None => return Ok(None),
-        }
-    }
-    Ok(Some(numbers))
-}
-
 // How many bits the largest absolute value of these numbers takes.
 fn most_bits(numbers: &[i128]) -> usize {
     let mut most = 0u128;
@@ -202,13 +186,17 @@ pub(crate) fn on_one_denominator(
         return Ok(None);
     };
     let denominator = words_of(alloc, scale.unsigned_abs())?;
-    match whole_numbers(alloc, fractions, scale)? {
-        Some(numbers) => Ok(Some(Right {
-            width: fractions.len(),
-            bits: most_bits(&numbers),
-            numbers,
-            denominator,
-        })),
-        None => Ok(None),
+    let mut numbers = Vec::with_capacity(alloc, fractions.len())?;
+    for v in fractions {
+        match times_scale(*v, scale) {
+            Some(number) if number.unsigned_abs() >> 125 == 0 => numbers.push(number)?,
+            Some(_) | None => return Ok(None),
+        }
     }
+    Ok(Some(Right {
+        width: fractions.len(),
+        bits: most_bits(&numbers),
+        numbers,
+        denominator,
+    }))
 }

@@ -16,20 +16,6 @@ pub(crate) fn part(list: &[Frac], k: usize) -> Frac {
 
 // ---- of the point
 
-// The values of the logical columns of the kernel's rows, in the order of these rows.
-fn logical_values(
-    alloc: Global,
-    program: &Program<'_>,
-    kernel: &Kernel,
-    values: &[Frac],
-) -> Result<Vec<Frac>, AllocError> {
-    let mut list = Vec::with_capacity(alloc, kernel.rows.len())?;
-    for i in &kernel.rows {
-        list.push(part(values, program.cols().wrapping_add(*i)))?;
-    }
-    Ok(list)
-}
-
 // Subtracts a column's entries times its value from the numbers of the kernel's rows. Says whether all stay within 127
 // bits.
 fn take_column(list: &mut [Frac], entries: &[(u32, Frac)], kernel: &Kernel, value: Frac) -> bool {
@@ -64,7 +50,7 @@ fn take_columns(
     true
 }
 
-// Each number times the scale of its row; none where a product is past 127 bits.
+// Each number of the kernel's rows times the scale of its row; none where a product is past 127 bits.
 fn scaled(
     alloc: Global,
     list: &[Frac],
@@ -72,8 +58,8 @@ fn scaled(
     scales: &[i128],
 ) -> Result<Option<Vec<Frac>>, AllocError> {
     let mut products = Vec::with_capacity(alloc, list.len())?;
-    for (number, i) in list.iter().zip(&kernel.rows) {
-        match times_whole(*number, scale_at(scales, *i)) {
+    for (place, i) in kernel.rows.iter().enumerate() {
+        match times_whole(part(list, place), scale_at(scales, *i)) {
             Some(product) => products.push(product)?,
             None => return Ok(None),
         }
@@ -101,7 +87,10 @@ pub(crate) fn right_sides(
     scales: &[i128],
     values: &[Frac],
 ) -> Result<Option<Right>, AllocError> {
-    let mut list = logical_values(alloc, program, kernel, values)?;
+    let mut list = Vec::with_capacity(alloc, kernel.rows.len())?;
+    for i in &kernel.rows {
+        list.push(part(values, program.cols().wrapping_add(*i)))?;
+    }
     if !take_columns(&mut list, program, kernel, values) {
         return Ok(None);
     }

@@ -4,17 +4,37 @@ use crate::program::Program;
 use crate::scales::{Scales, scale_at};
 use crate::wide_sides::{cost_sides, point_sides};
 use lp_frac::Frac;
-use lp_sparse::wide::{Words, product, times_wide};
-use lp_sparse::{Solved, System, Whole, lifted_solution};
+use lp_sparse::wide::{product, times_wide};
+use lp_sparse::{Right, Solved, System, Whole, lifted_solution};
 use std::alloc::{AllocError, Global};
 
-// Multiplies the denominator of a solution by the number `by`.
-fn over(alloc: Global, solved: &mut Solved, by: &[u64]) -> Result<(), AllocError> {
-    if let [1] = by {
-        return Ok(());
+// The solution of a basis' equations, or of the transposed ones, for these right sides. None where lifting finds none.
+fn solved_for(
+    alloc: Global,
+    prepared: &Prepared,
+    right: &Right,
+    is_turned: bool,
+) -> Result<Option<Solved>, AllocError> {
+    let whole = &prepared.whole;
+    let (levels, bits) = if is_turned {
+        (&whole.rows, whole.column_bits)
+    } else {
+        (&whole.columns, whole.row_bits)
+    };
+    let system = System {
+        levels,
+        factors: &prepared.factors,
+        is_turned,
+        is_short: whole.is_short,
+    };
+    let Some(mut solved) = lifted_solution(alloc, system, right, bits)? else {
+        return Ok(None);
+    };
+    if let [1] = right.denominator.as_slice() {
+        return Ok(Some(solved));
     }
-    solved.denominator = product(alloc, by, &solved.denominator)?;
-    Ok(())
+    solved.denominator = product(alloc, &right.denominator, &solved.denominator)?;
+    Ok(Some(solved))
 }
 
 /// Solves for the kernel's columns, where the nonbasic columns have these values. Their values are in the kernel's
@@ -25,36 +45,9 @@ pub(crate) fn solve_columns(
     prepared: &Prepared,
     values: &[Frac],
 ) -> Result<Option<Solved>, AllocError> {
-    let Some(right) = point_sides(alloc, program, prepared, values)? else {
-        return Ok(None);
-    };
-    let whole = &prepared.whole;
-    let system = System {
-        levels: &whole.columns,
-        factors: &prepared.factors,
-        is_turned: false,
-        is_short: whole.is_short,
-    };
-    let Some(mut solved) = lifted_solution(alloc, system, &right, whole.row_bits)? else {
-        return Ok(None);
-    };
-    over(alloc, &mut solved, &right.denominator)?;
-    Ok(Some(solved))
-}
-
-// A natural number times the scale of row `i`.
-fn times_scale(
-    alloc: Global,
-    scales: &Scales,
-    i: usize,
-    words: &[u64],
-) -> Result<Words, AllocError> {
-    match scales {
-        Scales::Short(scales) => times_wide(alloc, words, scale_at(scales, i).unsigned_abs()),
-        Scales::Long(scales) => match scales.get(i) {
-            Some(scale) => product(alloc, words, scale),
-            None => Vec::from_slice(alloc, words),
-        },
+    match point_sides(alloc, program, prepared, values)? {
+        Some(right) => solved_for(alloc, prepared, &right, false),
+        None => Ok(None),
     }
 }
 
@@ -64,8 +57,18 @@ fn scale_numerators(
     prepared: &Prepared,
     numerators: &mut [Whole],
 ) -> Result<(), AllocError> {
-    for (number, i) in numerators.iter_mut().zip(&prepared.kernel.rows) {
-        number.words = times_scale(alloc, &prepared.whole.scales, *i, &number.words)?;
+    for (place, i) in prepared.kernel.rows.iter().enumerate() {
+        if let Some(number) = numerators.get_mut(place) {
+            number.words = match &prepared.whole.scales {
+                Scales::Short(scales) => {
+                    times_wide(alloc, &number.words, scale_at(scales, *i).unsigned_abs())?
+                }
+                Scales::Long(scales) => match scales.get(*i) {
+                    Some(scale) => product(alloc, &number.words, scale)?,
+                    None => Vec::from_slice(alloc, &number.words)?,
+                },
+            };
+        }
     }
     Ok(())
 }
@@ -81,17 +84,9 @@ pub(crate) fn solve_rows(
     let Some(right) = cost_sides(alloc, program, &prepared.kernel, costs)? else {
         return Ok(None);
     };
-    let whole = &prepared.whole;
-    let system = System {
-        levels: &whole.rows,
-        factors: &prepared.factors,
-        is_turned: true,
-        is_short: whole.is_short,
-    };
-    let Some(mut solved) = lifted_solution(alloc, system, &right, whole.column_bits)? else {
+    let Some(mut solved) = solved_for(alloc, prepared, &right, true)? else {
         return Ok(None);
     };
-    over(alloc, &mut solved, &right.denominator)?;
     scale_numerators(alloc, prepared, &mut solved.numerators)?;
     Ok(Some(solved))
 }

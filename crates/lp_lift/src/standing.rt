@@ -6,7 +6,7 @@ use crate::program::Program;
 use crate::scales::{least_common, multiple, scale_at, times_scale};
 use crate::sides::{of_logicals, part};
 use crate::statuses::is_basic_at;
-use lp_frac::{Frac, den};
+use lp_frac::{Frac, den, neg};
 use lp_sparse::wide::times_wide;
 use lp_sparse::{Solved, Whole};
 use spec_pivot::Status;
@@ -83,25 +83,6 @@ fn add_column(
     Ok(true)
 }
 
-// Adds the entries of all columns, each column times its number, to the sums of the rows whose logical is basic, each
-// times its row's scale. False where an entry so scaled is no `i128`: the rest is then not added.
-fn add_columns(
-    sums: &mut [Sum],
-    program: &Program<'_>,
-    kernel: &Kernel,
-    scales: &[i128],
-    numbers: &[Whole],
-) -> Result<bool, AllocError> {
-    for (j, number) in numbers.iter().enumerate() {
-        let is_done = number.words.is_empty()
-            || add_column(sums, program.entries(j), kernel, scales, number)?;
-        if !is_done {
-            return Ok(false);
-        }
-    }
-    Ok(true)
-}
-
 // The sums of the rows whose logical is basic, each times the row's scale, at these numbers of the columns; 0 for other
 // rows. There are none where an entry times its row's scale is no `i128`.
 fn row_sums(
@@ -112,11 +93,14 @@ fn row_sums(
     numbers: &[Whole],
 ) -> Result<Option<Vec<Whole>>, AllocError> {
     let mut sums = no_sums(alloc, program.rows())?;
-    if add_columns(&mut sums, program, kernel, scales, numbers)? {
-        Ok(Some(numbers_of(alloc, sums)?))
-    } else {
-        Ok(None)
+    for (j, number) in numbers.iter().enumerate() {
+        let is_done = number.words.is_empty()
+            || add_column(&mut sums, program.entries(j), kernel, scales, number)?;
+        if !is_done {
+            return Ok(None);
+        }
     }
+    Ok(Some(numbers_of(alloc, sums)?))
 }
 
 // The sums of the rows whose logical is basic, each times its row's scale, where the kernel's columns have the
@@ -132,12 +116,12 @@ fn sums_of(
     let structurals = values
         .get(..program.cols().min(values.len()))
         .unwrap_or(&[]);
-    match amounts_of(alloc, solved, &kernel.column_places, structurals)? {
-        Some(mut found) => {
-            match row_sums(alloc, program, kernel, scales, &found.numbers)? {
-                Some(sums) => found.numbers = sums,
-                None => return Ok(None),
-            }
+    let Some(mut found) = amounts_of(alloc, solved, &kernel.column_places, structurals)? else {
+        return Ok(None);
+    };
+    match row_sums(alloc, program, kernel, scales, &found.numbers)? {
+        Some(sums) => {
+            found.numbers = sums;
             Ok(Some(found))
         }
         None => Ok(None),
@@ -163,11 +147,12 @@ pub(crate) fn put_rooms(
     solved: &Solved,
     rooms: &mut [Room],
 ) -> Result<(), AllocError> {
-    for (j, number) in kernel.columns.iter().zip(&solved.numerators) {
-        let lower = program.lower(*j);
-        let upper = program.upper(*j);
-        if let Some(place) = rooms.get_mut(*j) {
-            *place = room_of(alloc, number, &solved.denominator, lower, upper)?;
+    for place in 0..kernel.columns.len() {
+        if let (Some(j), Some(number)) = (kernel.columns.get(place), solved.numerators.get(place)) {
+            if let Some(room) = rooms.get_mut(*j) {
+                let (lower, upper) = (program.lower(*j), program.upper(*j));
+                *room = room_of(alloc, number, &solved.denominator, lower, upper)?;
+            }
         }
     }
     Ok(())
@@ -184,17 +169,14 @@ fn put_row_rooms(
 ) -> Result<(), AllocError> {
     for (i, sum) in sums.numbers.iter().enumerate() {
         let k = program.cols().wrapping_add(i);
-        let lower = program.lower(k);
-        let upper = program.upper(k);
+        let (lower, upper) = (program.lower(k), program.upper(k));
         let is_bounded = lower.is_some() || upper.is_some();
-        if let (true, None, Some(place)) = (
-            is_bounded,
-            place_at(&kernel.row_places, i),
-            rooms.get_mut(k),
-        ) {
-            let scale = scale_at(scales, i).unsigned_abs();
-            let below = times_wide(alloc, &sums.denominator, scale)?;
-            *place = room_of(alloc, sum, &below, lower, upper)?;
+        if is_bounded && place_at(&kernel.row_places, i).is_none() {
+            if let Some(room) = rooms.get_mut(k) {
+                let scale = scale_at(scales, i).unsigned_abs();
+                let below = times_wide(alloc, &sums.denominator, scale)?;
+                *room = room_of(alloc, sum, &below, lower, upper)?;
+            }
         }
     }
     Ok(())
@@ -226,8 +208,11 @@ pub(crate) fn short_rooms(
 fn column_scale(entries: &[(u32, Frac)], cost: Frac, multipliers: &Amounts) -> Option<i128> {
     let mut scale = den(cost);
     for (i, entry) in entries {
-        if !multipliers.is_zero_at(*i as usize) {
-            scale = least_common(scale, den(*entry))?;
+        match multipliers.numbers.get(*i as usize) {
+            Some(number) if !number.words.is_empty() => {
+                scale = least_common(scale, den(*entry))?;
+            }
+            Some(_) | None => {}
         }
     }
     Some(scale)
@@ -276,38 +261,8 @@ fn reduced_cost(
     Ok(Some(near(&sum.into_number(), &below)))
 }
 
-// The multipliers of all rows on one denominator: those of the solution in the kernel's rows, else the opposites of the
-// logicals' costs. None where a number is past 127 bits.
-fn all_multipliers(
-    alloc: Global,
-    program: &Program<'_>,
-    kernel: &Kernel,
-    solved: &Solved,
-    costs: &[Frac],
-) -> Result<Option<Amounts>, AllocError> {
-    let others = of_logicals(alloc, program, costs)?;
-    amounts_of(alloc, solved, &kernel.row_places, &others)
-}
-
-// The reduced cost of a nonbasic logical column, as a float: its cost plus the multiplier of row `i`.
-fn logical_reduced(
-    alloc: Global,
-    cost: Frac,
-    multipliers: &Amounts,
-    i: usize,
-) -> Result<f64, AllocError> {
-    match multipliers.numbers.get(i) {
-        Some(number) => near_difference(
-            alloc,
-            number,
-            &multipliers.denominator,
-            lp_frac::neg(cost),
-        ),
-        None => Ok(0.0),
-    }
-}
-
-// The reduced cost of column `k` as a float; 0 where it is basic. None where a number is past 127 bits.
+// The reduced cost of column `k` as a float; 0 where it is basic. That of a logical column is its cost plus its row's
+// multiplier. None where a number is past 127 bits.
 fn reduced_at(
     alloc: Global,
     program: &Program<'_>,
@@ -318,34 +273,23 @@ fn reduced_at(
 ) -> Result<Option<f64>, AllocError> {
     let cols = program.cols();
     if is_basic_at(statuses, k) {
-        Ok(Some(0.0))
-    } else if k < cols {
-        reduced_cost(alloc, program.entries(k), cost, multipliers)
-    } else {
-        Ok(Some(logical_reduced(alloc, cost, multipliers, k - cols)?))
+        return Ok(Some(0.0));
     }
-}
-
-// Adds the reduced costs of all columns to a list. Says whether all are within the limits.
-fn put_reduced(
-    alloc: Global,
-    program: &Program<'_>,
-    statuses: &[Status],
-    costs: &[Frac],
-    multipliers: &Amounts,
-    list: &mut Vec<f64>,
-) -> Result<bool, AllocError> {
-    for k in 0..statuses.len() {
-        match reduced_at(alloc, program, statuses, part(costs, k), multipliers, k)? {
-            Some(reduced) => list.push(reduced)?,
-            None => return Ok(false),
+    if k < cols {
+        return reduced_cost(alloc, program.entries(k), cost, multipliers);
+    }
+    match multipliers.numbers.get(k.wrapping_sub(cols)) {
+        Some(number) => {
+            let under = &multipliers.denominator;
+            Ok(Some(near_difference(alloc, number, under, neg(cost))?))
         }
+        None => Ok(Some(0.0)),
     }
-    Ok(true)
 }
 
-/// The reduced cost of each column, 0 of the basic ones, by the multipliers of the kernel's rows. There are none where a
-/// number is past the limits.
+/// The reduced cost of each column, 0 of the basic ones, by the multipliers of all rows on one denominator: those of the
+/// kernel's rows in the solution, else the opposites of the logicals' costs. There are none where a number is past the
+/// limits.
 pub(crate) fn short_reduced(
     alloc: Global,
     program: &Program<'_>,
@@ -354,24 +298,31 @@ pub(crate) fn short_reduced(
     solved: &Solved,
     costs: &[Frac],
 ) -> Result<Option<Vec<f64>>, AllocError> {
-    let Some(multipliers) = all_multipliers(alloc, program, kernel, solved, costs)? else {
+    let others = of_logicals(alloc, program, costs)?;
+    let found = amounts_of(alloc, solved, &kernel.row_places, &others)?;
+    drop(others);
+    let Some(multipliers) = found else {
         return Ok(None);
     };
     let mut list = Vec::with_capacity(alloc, statuses.len())?;
-    if put_reduced(alloc, program, statuses, costs, &multipliers, &mut list)? {
-        Ok(Some(list))
-    } else {
-        Ok(None)
+    for k in 0..statuses.len() {
+        match reduced_at(alloc, program, statuses, part(costs, k), &multipliers, k)? {
+            Some(reduced) => list.push(reduced)?,
+            None => return Ok(None),
+        }
     }
+    Ok(Some(list))
 }
 
 // ---- rates
 
 /// Sets the rates of the basic structural columns, in floats, from the solution.
 pub(crate) fn put_rates(kernel: &Kernel, solved: &Solved, rates: &mut [f64]) {
-    for (j, number) in kernel.columns.iter().zip(&solved.numerators) {
-        if let Some(rate) = rates.get_mut(*j) {
-            *rate = near(number, &solved.denominator);
+    for place in 0..kernel.columns.len() {
+        if let (Some(j), Some(number)) = (kernel.columns.get(place), solved.numerators.get(place)) {
+            if let Some(rate) = rates.get_mut(*j) {
+                *rate = near(number, &solved.denominator);
+            }
         }
     }
 }

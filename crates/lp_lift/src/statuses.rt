@@ -48,12 +48,12 @@ pub(crate) fn fitting_statuses(
     statuses: &[Status],
 ) -> Result<Vec<Status>, AllocError> {
     let mut list = Vec::with_capacity(alloc, statuses.len())?;
-    for (k, (lower, upper)) in program.lowers.iter().zip(&program.uppers).enumerate() {
+    for k in 0..program.lowers.len() {
         let status = match statuses.get(k) {
             Some(status) => *status,
             None => Status::AtLower,
         };
-        list.push(fitting(status, *lower, *upper))?;
+        list.push(fitting(status, program.lower(k), program.upper(k)))?;
     }
     Ok(list)
 }
@@ -78,8 +78,9 @@ pub(crate) fn standings(
     statuses: &[Status],
 ) -> Result<Vec<Frac>, AllocError> {
     let mut list = Vec::with_capacity(alloc, statuses.len())?;
-    for (k, (lower, upper)) in program.lowers.iter().zip(&program.uppers).enumerate() {
-        list.push(standing(status_at(statuses, k), *lower, *upper))?;
+    for k in 0..program.lowers.len() {
+        let status = status_at(statuses, k);
+        list.push(standing(status, program.lower(k), program.upper(k)))?;
     }
     Ok(list)
 }

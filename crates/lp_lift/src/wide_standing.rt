@@ -1,9 +1,9 @@
 // How the columns of a basis stand, with numbers of any width where those of 127 bits are too narrow.
 use crate::kernel::{Kernel, Prepared, place_at};
 use crate::near::near_quotient;
-use crate::numbers::numbers;
+use crate::numbers::{multipliers, numbers};
 use crate::program::Program;
-use crate::sides::{of_logicals, part};
+use crate::sides::part;
 use crate::standing::{FREE, Room, put_rates, put_rooms, short_rates, short_reduced, short_rooms};
 use crate::statuses::is_basic_at;
 use crate::wide_kernel::words_of_natural;
@@ -88,21 +88,6 @@ fn put_row_rooms(
     Ok(())
 }
 
-// The room of each column in floats, by numbers of any width; infinite for each nonbasic one.
-fn long_rooms(
-    alloc: Global,
-    program: &Program<'_>,
-    kernel: &Kernel,
-    solved: &Solved,
-    values: &[Frac],
-) -> Result<Vec<Room>, AllocError> {
-    let found = row_sums(alloc, program, kernel, solved, values)?;
-    let mut rooms = Vec::from_elem(alloc, FREE, values.len())?;
-    put_rooms(alloc, program, kernel, solved, &mut rooms)?;
-    put_row_rooms(alloc, program, kernel, found.sums.as_slice(), &mut rooms)?;
-    Ok(rooms)
-}
-
 /// The distances of each basic column from its bounds, by the solution and by the values of the nonbasic columns;
 /// infinite for each nonbasic one.
 pub(crate) fn rooms(
@@ -118,7 +103,11 @@ pub(crate) fn rooms(
             return Ok(rooms);
         }
     }
-    long_rooms(alloc, program, kernel, solved, values)
+    let found = row_sums(alloc, program, kernel, solved, values)?;
+    let mut rooms = Vec::from_elem(alloc, FREE, values.len())?;
+    put_rooms(alloc, program, kernel, solved, &mut rooms)?;
+    put_row_rooms(alloc, program, kernel, found.sums.as_slice(), &mut rooms)?;
+    Ok(rooms)
 }
 
 // ---- rates
@@ -140,22 +129,6 @@ fn put_row_rates(
     Ok(())
 }
 
-// The rates at which the basic columns move where the nonbasic ones move by `moves`, by sums of any width; 0 for each
-// nonbasic one.
-fn long_rates(
-    alloc: Global,
-    program: &Program<'_>,
-    kernel: &Kernel,
-    solved: &Solved,
-    moves: &[Frac],
-) -> Result<Vec<f64>, AllocError> {
-    let found = row_sums(alloc, program, kernel, solved, moves)?;
-    let mut rates = Vec::from_elem(alloc, 0.0f64, moves.len())?;
-    put_rates(kernel, solved, &mut rates);
-    put_row_rates(alloc, program, kernel, found.sums.as_slice(), &mut rates)?;
-    Ok(rates)
-}
-
 /// The rates at which the basic columns move where the nonbasic ones move by `moves`; 0 for each nonbasic one.
 pub(crate) fn rates_of(
     alloc: Global,
@@ -170,7 +143,11 @@ pub(crate) fn rates_of(
             return Ok(rates);
         }
     }
-    long_rates(alloc, program, kernel, solved, moves)
+    let found = row_sums(alloc, program, kernel, solved, moves)?;
+    let mut rates = Vec::from_elem(alloc, 0.0f64, moves.len())?;
+    put_rates(kernel, solved, &mut rates);
+    put_row_rates(alloc, program, kernel, found.sums.as_slice(), &mut rates)?;
+    Ok(rates)
 }
 
 // ---- reduced costs
@@ -211,32 +188,6 @@ fn put_logicals(
     Ok(())
 }
 
-// The reduced cost of each column as a float, by numbers of any width; 0 for each basic one.
-fn long_reduced(
-    alloc: Global,
-    program: &Program<'_>,
-    kernel: &Kernel,
-    statuses: &[Status],
-    solved: &Solved,
-    costs: &[Frac],
-) -> Result<Vec<f64>, AllocError> {
-    let len = program.model.rows();
-    let places = &kernel.row_places;
-    let y = numbers(
-        alloc,
-        len,
-        places,
-        solved,
-        false,
-        &of_logicals(alloc, program, costs)?,
-    )?;
-    let found = reduced_costs(alloc, program.model, &y)?;
-    let mut list = Vec::from_elem(alloc, 0.0f64, statuses.len())?;
-    put_structurals(alloc, program, statuses, costs, found.as_slice(), &mut list)?;
-    put_logicals(alloc, program, statuses, costs, y.as_slice(), &mut list)?;
-    Ok(list)
-}
-
 /// The reduced cost of each column as a float, 0 of the basic ones, by the multipliers of the kernel's rows and these
 /// costs.
 pub(crate) fn all_reduced(
@@ -247,8 +198,13 @@ pub(crate) fn all_reduced(
     solved: &Solved,
     costs: &[Frac],
 ) -> Result<Vec<f64>, AllocError> {
-    match short_reduced(alloc, program, kernel, statuses, solved, costs)? {
-        Some(reduced) => Ok(reduced),
-        None => long_reduced(alloc, program, kernel, statuses, solved, costs),
+    if let Some(reduced) = short_reduced(alloc, program, kernel, statuses, solved, costs)? {
+        return Ok(reduced);
     }
+    let y = multipliers(alloc, program, kernel, solved, false, costs)?;
+    let found = reduced_costs(alloc, program.model, &y)?;
+    let mut list = Vec::from_elem(alloc, 0.0f64, statuses.len())?;
+    put_structurals(alloc, program, statuses, costs, found.as_slice(), &mut list)?;
+    put_logicals(alloc, program, statuses, costs, y.as_slice(), &mut list)?;
+    Ok(list)
 }
