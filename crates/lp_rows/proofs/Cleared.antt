@@ -6,12 +6,14 @@
 -- `over_neg`: the negative of t over a positive denominator is the negative of the fraction.
 -- `cleared`: where each number k is a * old k - b * other k, over d * a, the new row is the old one less the other row
 --   times the old row's fraction in column j. (a * g is the other's denominator, b * g the old number j.).
+-- `cleared_positive`: where a * g and d are positive, d * a is positive.
 -- `written`: a list that was lent whole and written back is the list that was written.
 -- `cleared_written`: what `cleared` says, of rows that were lent whole and written back.
 use Rattle.std.proofs.Common.{◌≡◌, ℕ, zero, suc, ◌*◌, ◌<◌, ℤ, pos, negsuc, neg_ℤ, ◌*ℤ◌, ◌-ℤ◌, List, [], ◌∷◌, ◌++◌}
 use Rattle.std.proofs.Common.{length, Bool, true, false, refl, sym, ap, ap₂, ◌∙◌, subst, subst₂, arith, Some}
 use Rattle.std.proofs.Common.{option_map}
 use Rattle.std.proofs.Math.ListN.{take, drop}
+use Rattle.std.proofs.Math.Nat.{mul-pos}
 use Rattle.std.proofs.Math.Seq.{take-append_seam}
 use Rattle.spec_exact.specs.Fraction.{over, neg_ℚ, ◌+ℚ◌, ◌-ℚ◌, ◌*ℚ◌}
 use Rattle.spec_exact.proofs.Ring.{◌⊕◌, ◌⊗◌, minus, lit, v0, v1, v2, v3}
@@ -82,6 +84,10 @@ cleared value old new other j d e m a b g size negative same column p q f h i t 
           (ap₂ (λ u v. u *ℚ v) (sym (fraction-at value old d j column))
           (sym (fraction-at value other e k (omega (arith, l, same)))));
     }
+
+-- the new denominator, where a is a divisor of a positive number
+pub cleared_positive : (d e m a g : ℕ) → 0 < d → 0 < e → a * g ≡ e → m ≡ d * a → 0 < m
+cleared_positive d e m a g p q f i = subst (λ n. 0 < n) (sym i) (mul-pos p (positive_left a g e f q))
 
 -- what a list is after a part of it, which was all, was written
 pub written : {A : Type 0} (n : ℕ) (xs ys : List A) → length xs ≡ n → take n (xs ++ drop (length xs) ys) ≡ xs

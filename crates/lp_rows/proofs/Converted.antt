@@ -7,6 +7,8 @@
 -- `fractions_map`: the fractions of a list of numbers on d are each number over d.
 -- `row_with`: the numbers of a list of fractions, with a last one behind, are the row of that list and that last
 --   value.
+-- `row_of_is`: where a row's numbers are those of a list on the row's denominator, and the last one on d times that, the
+--   row is that of the list and that last value.
 -- `row_at-before`: a row that is pushed leaves the fractions of the rows before as they were.
 -- `row_at-seam`: the fractions of a row that is pushed are found in the last row.
 -- `rows_more`: the rows of the first i positions, with that of position i pushed, are those of the first i + 1.
@@ -98,6 +100,21 @@ row_with value list xs now x last own both e h n =
           ap₂ (λ ys k. get_or ys k 0ℚ) (fractions_more value xs x both) (l ∙ sym (length-fractions value xs both))
           ∙ get_or-append_seam (fractions value xs both) (over (whole_of value x) both) [] 0ℚ ∙ h;
     })
+
+pub row_of_is : {T : Type 0} (value : T → ℕ) (list : List ℚ) (last : ℚ) (d both : ℕ) (own : T) (row : Row T) →
+    both ≡ d * value own → 0 < value own →
+    (row.denominator ≡ own) × IsRowWith value list last (value own) both row.numbers.items →
+    IsRowOf value list last d row
+row_of_is value list last d both own row e p h =
+    let own_is : value row.denominator ≡ value own = ap value h.0 in
+    record {
+      is_row = record { numbers = h.1.len; positive = subst (λ n. 0 < n) (sym own_is) p };
+      entries = λ k l. ap (λ n. fraction_at value row.numbers.items n k) own_is ∙ h.1.entries k l;
+      value_last =
+          ap (λ n. fraction_at value row.numbers.items (d * n) (length list)) own_is
+          ∙ ap (λ n. fraction_at value row.numbers.items n (length list)) (sym e)
+          ∙ h.1.value_last;
+    }
 
 -- ---- rows of a tableau
 pub row_at-before : {T : Type 0} (value : T → ℕ) (d : ℕ) (rows : List (Row T)) (row : Row T) (i k : ℕ) → i < length rows →

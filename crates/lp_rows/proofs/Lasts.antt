@@ -6,7 +6,7 @@ use Rattle.std.proofs.Common.{◌≡◌, ◌≢◌, ℕ, ◌+◌, ◌<◌, ◌�
 use Rattle.std.proofs.Common.{ap₂, ◌∙◌, subst, subst₂, arith}
 use Rattle.std.proofs.Common.{ℤ, pos, neg_ℤ, ◌*ℤ◌, ◌-ℤ◌, Bool, true, false, cond, nat_eq, eq-eqb, ne_eqb}
 use Rattle.std.proofs.Math.Nat.{mul-one}
-use Rattle.std.proofs.lemmas.List.{length-set, get_or-set_same, set-set}
+use Rattle.std.proofs.lemmas.List.{length-set}
 use Rattle.std.proofs.lemmas.List.Elements.{All-set}
 use Rattle.spec_exact.specs.Fraction.{ℚ, 0ℚ, over, ◌+ℚ◌, ◌-ℚ◌, ◌*ℚ◌, neg_ℚ, inverse}
 use Rattle.spec_exact.proofs.Ring.{◌⊕◌, ◌⊗◌, minus, lit, v0, v1, v2}
@@ -24,7 +24,7 @@ use Rattle.lp_rows.proofs.Done.{item-at, at-set_same, at-set_other}
 use Rattle.lp_rows.proofs.Cleared.{fraction-at, over_neg}
 use Rattle.lp_rows.proofs.Gaps.{together}
 use Rattle.lp_rows.specs.Shows.{IsRow}
-use Rattle.lp_rows.specs.Moves.{number_at, number_in, IsLess, IsScaled, IsCleared, AreCleared}
+use Rattle.lp_rows.specs.Moves.{number_at, number_in, IsLess, IsScaled, IsCleared, AreCleared, AreMoved}
 use Rattle.lp_rows.specs.Moves.{AreTurned, step_to}
 use Rattle.lp_rows.proofs.TableauNumbers.{number_in-get, number_in-set, number_in-other}
 use Rattle.lp_rows.proofs.Taken.{nothing_off}
@@ -136,6 +136,11 @@ module _ {T : Type 0} (value : T → ℕ) where
     pub each : (i k : ℕ) → i < done → i < length old → k < n + 1 → number_in value new i k ≡ f i k
     pub rest : (i k : ℕ) → done ≤ i → number_in value new i k ≡ number_in value old i k
 
+  -- before the first row none is changed
+  pub none_yet : (n : ℕ) (f : ℕ → ℕ → ℚ) (old : List (Row T)) → All (IsRow value n) old → AreSoFar n 0 f old old
+  none_yet n f old is =
+      record { len = refl; rows = is; each = λ i k l. absurd (omega (arith, l)); rest = λ i k l. refl }
+
   one_more : (n done : ℕ) (f : ℕ → ℕ → ℚ) (old new : List (Row T)) (row : Row T) → AreSoFar n done f old new →
       done < length new → IsRow value n row → ((k : ℕ) → k < n + 1 → number_at value row k ≡ f done k) →
       AreSoFar n (done + 1) f old (set new done row)
@@ -171,6 +176,12 @@ module _ {T : Type 0} (value : T → ℕ) where
       (λ k l. d.each k l
       ∙ ap₂ (λ x y. x -ℚ y *ℚ number_at value own k) (was n done f old new z a h k) (was n done f old new z a h j))
 
+  -- where as many rows are cleared as there are, all are
+  pub all_cleared : (n j done : ℕ) (own : Row T) (old new : List (Row T)) →
+      AreSoFar n done (cleared_at j own old) old new → length old ≤ done → AreCleared value n j own old new
+  all_cleared n j done own old new a e =
+      record { len = a.len; rows = a.rows; each = λ i k h l. a.each i k (omega (arith, h, e)) h l }
+
   -- moving
   abbrev pub moved_at : ℕ → ℕ → ℚ → List (Row T) → ℕ → ℕ → ℚ
   moved_at n j v old i k =
@@ -190,6 +201,19 @@ module _ {T : Type 0} (value : T → ℕ) where
       ∙ ap₂ (λ x y. x -ℚ y *ℚ v) (was n done f old new z a h n) (was n done f old new z a h j)
       ∙ sym (rw (eq-eqb k n s) refl))
       (λ o. d.others k (omega (arith, l, o)) ∙ was n done f old new z a h k ∙ sym (rw (ne_eqb k n o) refl)))
+
+  -- where as many rows are moved as there are, all are
+  pub all_moved : (n j done : ℕ) (v : ℚ) (old new : List (Row T)) → AreSoFar n done (moved_at n j v old) old new →
+      length old ≤ done → AreMoved value n j v old new
+  all_moved n j done v old new a e =
+      record {
+        len = a.len;
+        rows = a.rows;
+        others = λ i k h l.
+            a.each i k (omega (arith, h, e)) h (omega (arith, l))
+            ∙ rw (ne_eqb k n (λ s. let z : ⊥ = omega (arith, l, s) in z)) refl;
+        last = λ i h. a.each i n (omega (arith, h, e)) h (omega arith) ∙ rw (eq-eqb n n refl) refl;
+      }
 
   -- ---- a pivot: `scaled` is row p over its entry, and the costs stand in its place while rows are cleared
   module _ (n p j : ℕ) (v w : ℚ) (old : List (Row T)) (cost : Row T) (rows_is : All (IsRow value n) old)
@@ -256,27 +280,18 @@ module _ {T : Type 0} (value : T → ℕ) where
   -- the same from what each call gives
   pub turned_by : (n p j : ℕ) (v w less : ℚ) (old : List (Row T)) (cost : Row T) → All (IsRow value n) old →
       p < length old →
-      j < n → (z scaled : Row T) → IsScaled value n j v (get_or old p z) scaled → (there x y : Row T) → x ≡ cost →
-      y ≡ get_or (set old p scaled) p there → (cleared : List (Row T)) →
-      AreCleared value n j y (set (set old p scaled) p x) cleared → (third x' costs : Row T) → x' ≡ y →
-      costs ≡ get_or cleared p third → (fourth moved : Row T) → less ≡ neg_ℚ w →
-      IsLess value n less (get_or (set cleared p x') p fourth) moved →
-      AreTurned value n p j v w old (set (set cleared p x') p moved) cost costs
-  turned_by n p j v w less old cost rows_is place column z scaled s there x y x_is y_is cleared d third x' costs x_is'
-      costs_is fourth moved less_is m =
-      let y_scaled : y ≡ scaled = y_is ∙ get_or-set_same old p scaled there place in
-      let lent : List (Row T) = set (set old p scaled) p x in
-      let len : length lent ≡ length old = length-set (set old p scaled) p x ∙ length-set old p scaled in
-      let in_cleared : p < length cleared = omega (arith, place, len, d.len) in
-      let fourth_scaled : get_or (set cleared p x') p fourth ≡ scaled =
-      get_or-set_same cleared p x' fourth in_cleared ∙ x_is' ∙ y_scaled in
-      turned_is n p j v w old cost rows_is place column z scaled s lent cleared
-      (set (set cleared p x') p moved) costs len
-      (λ k. number_in-set value (set old p scaled) p k x (omega (arith, place, length-set old p scaled))
-      ∙ ap (λ z. number_at value z k) x_is)
-      (λ i k o. number_in-other value (set old p scaled) p i k x o ∙ number_in-other value old p i k scaled o)
-      (subst (λ z. AreCleared value n j z lent cleared) y_scaled d) third costs_is moved
-      (subst₂ (λ v u. IsLess value n v u moved) less_is fourth_scaled m) (set-set cleared p x' moved)
+      j < n → (z scaled : Row T) → IsScaled value n j v (get_or old p z) scaled → (x y : Row T) → x ≡ cost →
+      y ≡ scaled → (cleared : List (Row T)) → AreCleared value n j y (set old p x) cleared →
+      (third x' costs : Row T) → x' ≡ y → costs ≡ get_or cleared p third → (moved : Row T) → less ≡ neg_ℚ w →
+      IsLess value n less x' moved → AreTurned value n p j v w old (set cleared p moved) cost costs
+  turned_by n p j v w less old cost rows_is place column z scaled s x y x_is y_is cleared d third x' costs x_is'
+      costs_is moved less_is m =
+      turned_is n p j v w old cost rows_is place column z scaled s (set old p x) cleared (set cleared p moved) costs
+      (length-set old p x)
+      (λ k. number_in-set value old p k x place ∙ ap (λ z. number_at value z k) x_is)
+      (λ i k o. number_in-other value old p i k x o)
+      (subst (λ z. AreCleared value n j z (set old p x) cleared) y_is d) third costs_is moved
+      (subst₂ (λ v u. IsLess value n v u moved) less_is (x_is' ∙ y_is) m) refl
 
 pub less_neg : (a b : ℤ) → a ≡ neg_ℤ b → over a 1 ≡ neg_ℚ (over b 1)
 less_neg a b e = ap (λ z. over z 1) e ∙ over_neg b 1 (omega arith)

@@ -2,7 +2,8 @@
 --
 -- `none_on`: 0 over a positive denominator is 0.
 -- `whole_on`: n as a fraction, times 1 / d, is n / d.
-use Rattle.std.proofs.Common.{◌≡◌, ℕ, ◌*◌, ◌<◌, List, length, get_or, set, All, Option, None}
+-- `before_all`: a column before n is before n + m.
+use Rattle.std.proofs.Common.{◌≡◌, ℕ, ◌+◌, ◌*◌, ◌<◌, List, length, get_or, set, All, Option, None}
 use Rattle.std.proofs.Common.{refl, sym, ap, ap₂, ◌∙◌, subst, subst₂, arith}
 use Rattle.std.proofs.Common.{ℤ, pos, ◌-ℤ◌, [], ◌∷◌}
 use Rattle.std.proofs.lemmas.List.{length-set, get_or_default}
@@ -55,6 +56,9 @@ range_on way d by range u l upper lower p e f h k =
     ∙ ap (λ z. over z d) e
     ∙ directed_on way range d p
     ∙ ap (directed way) (ap (λ z. over z d) f ∙ sym (together u l d p) ∙ ap₂ (λ x y. x -ℚ y) h k)
+
+pub before_all : (k n m : ℕ) → k < n → k < n + m
+before_all k n m h = omega arith
 
 module _ {T : Type 0} (value : T → ℕ) (r s : RowTableau T) (w : IsWhole value r) where
   -- where a flip moves the last numbers of rows and sets one status, a whole tableau of rows stays whole
@@ -129,6 +133,11 @@ module _ {T : Type 0} (value : T → ℕ) (r s : RowTableau T) (w : IsWhole valu
   -- the basic column that is read at position p is the one that `basic_in` gives for p
   pub basic_read : (p q z : ℕ) → p < height r → q ≡ get_or r.basic.items p z → q ≡ basic_in r p
   basic_read p q z h e = e ∙ get_or_default r.basic.items p z 0 (omega (arith, h, w.all_basic))
+
+  -- the basic column that is read at position p is one of all columns
+  pub basic_inside : (p q z : ℕ) → p < height r → q ≡ get_or r.basic.items p z → q < all_width r
+  basic_inside p q z h e =
+      subst (λ k. k < all_width r) (sym e) (w.in_range p z (subst (λ n. p < n) (sym w.all_basic) h))
 
   -- where the last numbers are moved by column j's distance between its bounds, and its status is set to the other
   -- bound, the rows s are r after the flip of j

@@ -81,7 +81,8 @@ module _ {T U : Type 0} (value : T → ℕ) (wide : U → ℕ) where
       (same_rows n xs ys others (All-tail (IsRow value n) x xs all))
 
   module _ (r : RowTableau T) (s : RowTableau U) (same : AreSameNumbers value wide r s) where
-    same_height : height s ≡ height r
+    -- tableaus with the same numbers have as many positions
+    pub same_height : height s ≡ height r
     same_height =
         sym (length-map s.rows.items (whole_row wide)) ∙ ap (λ (xs : List (List ℤ × ℕ)). length xs) same.rows
         ∙ length-map r.rows.items (whole_row value)

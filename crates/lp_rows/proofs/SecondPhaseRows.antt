@@ -1,12 +1,20 @@
 -- The rows at the beginning of the second phase show the stated tableau there.
-use Rattle.std.proofs.Common.{◌≡◌, ◌≢◌, ℕ, zero, ◌+◌, ◌<◌, ◌≤◌, pos, List, [], ◌∷◌, length, get_or, set, Option}
-use Rattle.std.proofs.Common.{Some, None, Ok, false, refl, sym, ap, ap₂, subst, ◌∙◌, arith}
+--
+-- `none_zeroed`: bounds as they were are 0 from n to n, where there are none.
+-- `all_zeroed`: where the bounds from n to k are 0, so are those from n to m, which is no more than k.
+-- `zeroed_more`: where the bounds from n to k are 0, and bound k is set to 0, those from n to k + 1 are 0.
+-- `zeroed_written`: where bounds that were lent whole were made 0 from n on, and are written back, they are 0 from n
+--   on.
+use Rattle.std.proofs.Common.{◌≡◌, ◌≢◌, ℕ, ◌+◌, ◌<◌, ◌≤◌, pos, List, [], ◌∷◌, length, get_or, set, Option}
+use Rattle.std.proofs.Common.{Some, None, Ok, false, refl, sym, ap, ap₂, subst, subst₂, ◌∙◌, arith, ◌++◌, All}
+use Rattle.std.proofs.Math.ListN.{take, drop}
 use Rattle.std.proofs.lemmas.List.{length-set, get_or-set_same, get_or-set_other}
 use Rattle.spec_exact.specs.Fraction.{ℚ, 0ℚ, over}
 use Rattle.spec_exact.proofs.Ring.{◌⊗◌, lit, v0}
 use Rattle.spec_exact.proofs.WholeRing.{by_ring}
 use Rattle.spec_exact.proofs.Fraction.{over-same}
 use Rattle.spec_exact.proofs.Field.{whole_over}
+use Rattle.spec_model.specs.Kept.{row_limit, column_limit}
 use Rattle.spec_pivot.specs.declared.status.Status.TheVariants.{Basic}
 use Rattle.spec_pivot.proofs.Pivot.{by_eq}
 use Rattle.spec_simplex.specs.Form.{Form}
@@ -21,8 +29,9 @@ use Rattle.lp_natural.specs.declared.words.signed.Signed.{Signed}
 use Rattle.lp_rows.specs.declared.fractions.Row.{Row}
 use Rattle.lp_rows.specs.Ratio.{bound_of}
 use Rattle.lp_rows.specs.declared.tableau.tableau.RowTableau.{RowTableau}
-use Rattle.lp_rows.specs.Shows.{IsWhole, IsReached, Shows, row_at, height, width, all_width}
+use Rattle.lp_rows.specs.Shows.{IsRow, IsWhole, IsReached, Shows, row_at, height, width, all_width}
 use Rattle.lp_rows.specs.Second.{fraction_of, IsPricedRow, AreZeroed, IsBegun}
+use Rattle.lp_rows.proofs.Cleared.{written}
 use Rattle.lp_rows.proofs.Taken.{stated_costs}
 
 -- ---- a list of bounds
@@ -36,7 +45,15 @@ zero_is value x d e p =
     (by_ring (pos d ∷ []) (lit (pos 0) ⊗ lit (pos 1)) (lit (pos 0) ⊗ v0) refl)
     ∙ sym (whole_over (pos 0)))
 
--- where the bounds from n to k are 0, and bound k is set to 0, those from n to k + 1 are 0
+pub none_zeroed : {T : Type 0} (value : T → ℕ) (n : ℕ) (old : List (Option (Signed T))) → AreZeroed value n n old old
+none_zeroed value n old =
+    record { len = refl; before = λ j m. refl; zero = λ j m below d p. absurd (omega (arith, m, below)) }
+
+pub all_zeroed : {T : Type 0} (value : T → ℕ) (n m k : ℕ) (old new : List (Option (Signed T))) →
+    AreZeroed value n k old new → m ≤ k → AreZeroed value n m old new
+all_zeroed value n m k old new z e =
+    record { len = z.len; before = z.before; zero = λ j l below d p. z.zero j l (omega (arith, below, e)) d p }
+
 pub zeroed_more : {T : Type 0} (value : T → ℕ) (n k : ℕ) (old new : List (Option (Signed T))) (x : T) → n ≤ k →
     k < length new → value x ≡ 0 → AreZeroed value n k old new →
     AreZeroed value n (k + 1) old (set new k (Some (record { negative = false; size = x })))
@@ -55,11 +72,44 @@ zeroed_more value n k old new x h l e so_far =
           ∙ so_far.zero j m (omega (arith, below, q)) d p);
     }
 
+pub zeroed_written : {T : Type 0} (value : T → ℕ) (n m size : ℕ) (old lent new : List (Option (Signed T))) →
+    lent ≡ old → length lent ≡ size → n ≡ m → AreZeroed value n (length lent) lent new →
+    AreZeroed value m (length old) old (take size (new ++ drop (length new) old))
+zeroed_written value n m size old lent new r l e z =
+    subst (λ xs. AreZeroed value m (length old) old xs) (sym (written size new old (z.len ∙ l)))
+    (subst₂ (λ n xs. AreZeroed value n (length xs) xs new) e r z)
+
 -- ---- the tableau
 module _ {T : Type 0} (value : T → ℕ) (r : RowTableau T) (costs : Row T) (s : RowTableau T) (w : IsWhole value r)
     (b : IsBegun value r costs s) where
   same_height : height s ≡ height r
   same_height = ap (λ (rows : _). length rows.items) b.rows
+
+  same_width : width s ≡ width r
+  same_width = ap₂ (λ a b. a + b) b.cols same_height
+
+  same_all : all_width s ≡ all_width r
+  same_all = ap₂ (λ a b. a + b) same_width same_height
+
+  -- where the costs are a row of a whole tableau of rows, the tableau with which phase two begins is whole
+  pub begun_whole : IsRow value (width r) costs → IsWhole value s
+  begun_whole is = record {
+    few_rows = subst (λ n. n ≤ row_limit) (sym same_height) w.few_rows;
+    few_columns = subst (λ n. n ≤ column_limit) (sym b.cols) w.few_columns;
+    each_row =
+        subst (λ n. All (IsRow value n) s.rows.items) (sym same_width)
+        (subst (λ (rows : _). All (IsRow value (width r)) rows.items) (sym b.rows) w.each_row);
+    costs = subst (λ n. IsRow value n s.costs) (sym same_width) (subst (IsRow value (width r)) (sym b.reduced) is);
+    all_basic = ap (λ (ks : _). length ks.items) b.basic ∙ w.all_basic ∙ sym same_height;
+    in_range =
+        subst (λ n. All (λ k. k < n) s.basic.items) (sym same_all)
+        (subst (λ (ks : _). All (λ k. k < all_width r) ks.items) (sym b.basic) w.in_range);
+    all_statuses = ap (λ (ss : _). length ss.items) b.status ∙ w.all_statuses ∙ sym same_all;
+    all_lower = b.lower.len ∙ w.all_lower ∙ sym same_all;
+    all_upper = b.upper.len ∙ w.all_upper ∙ sym same_all;
+    all_fixed = ap (λ (bs : _). length bs.items) b.fixed ∙ w.all_fixed ∙ sym same_width;
+    positive = subst (λ d. 0 < value d) (sym b.denominator) w.positive;
+  }
 
   module _ (t : Tableau) (reached : IsReached t) (shown : Shows value r t) where
     columns : width r ≡ form_columns t

@@ -5,6 +5,7 @@ ghost use Rattle.lp_rows.specs.Row.{fraction_at, AreNow};
 
 use crate::row::{eliminate, part, turn};
 use lp_natural::words::{Divisor, Signed, Words, is_one, quotient, quotient_by, some_common};
+use std::alloc::AllocError;
 
 /// Whole numbers on a denominator, which is not 0. The last of them is the value of the row's basic column.
 pub struct Row<T: Words> {
@@ -23,11 +24,19 @@ impl<T: Words> Drop for Row<T> {
 }
 
 // What two numbers are times a divisor that they have in common.
-#[derive(Clone, Copy)]
+#[derive(Copy)]
 pub(crate) struct Shares<T> {
     pub(crate) first: T,
     pub(crate) second: T,
     pub(crate) common: T,
+}
+
+impl<T: Copy> Clone for Shares<T> {
+    ghost is_clone = { λ x y. y ≡ x };
+
+    fn clone(&self) -> Result<Shares<T>, AllocError> {
+        Ok(*self)
+    }
 }
 
 // The quotients of two numbers by a divisor that they have in common, and that divisor. None where the one that is

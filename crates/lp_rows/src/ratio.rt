@@ -89,10 +89,18 @@ pub(crate) fn better<T: Words>(new: Stopper<T>, best: Stopper<T>) -> Stopper<T>
 }
 
 // How far a basic column is from the bound that stops it, and which bound that is.
-#[derive(Clone, Copy)]
+#[derive(Copy)]
 pub(crate) struct Gap<T> {
     pub(crate) size: Signed<T>,
     pub(crate) to: Status,
+}
+
+impl<T: Copy> Clone for Gap<T> {
+    ghost is_clone = { λ x y. y ≡ x };
+
+    fn clone(&self) -> Result<Gap<T>, AllocError> {
+        Ok(*self)
+    }
 }
 
 // How far a value is below a bound (`Up`) or above it (`Down`); below 0 where it is past the bound. The bound is on the

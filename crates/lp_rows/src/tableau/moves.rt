@@ -171,13 +171,15 @@ pub fn turn_rows<T: Words>(rows: &mut [Row<T>], costs: &mut Row<T>, n: usize, tu
         leaves_at,
         enters_from,
     } = turn;
-    if !scale(&mut rows[place], n, col, leaves_at) {
+    let own = &mut rows[place];
+    if !scale(own, n, col, leaves_at) {
         return false;
     }
-    swap(&mut rows[place], costs);
+    swap(own, costs);
     if !clear_all(rows, costs, n, col) {
         return false;
     }
-    swap(&mut rows[place], costs);
-    take_off(&mut rows[place], n, negated(enters_from))
+    let own = &mut rows[place];
+    swap(own, costs);
+    take_off(own, n, negated(enters_from))
 }

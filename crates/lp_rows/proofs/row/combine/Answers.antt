@@ -1,9 +1,18 @@
 -- One number more, and one that stays.
-use Rattle.std.proofs.Common.{◌≤◌, ◌<◌, length, sym, ap₂, ◌∙◌, arith, ◌*ℤ◌, ◌-ℤ◌, refl}
+use Rattle.std.proofs.Common.{◌≤◌, ◌<◌, length, sym, ap₂, ◌∙◌, arith, ◌*ℤ◌, ◌-ℤ◌, subst, refl}
 use Rattle.lp_natural.specs.Whole.{whole}
 use Rattle.lp_rows.proofs.Done.{one_done, one_kept, item-at}
 use Rattle.lp_rows.proofs.TakenMultiples.{both_none}
 use Rattle.lp_rows.proofs.row.combine.Goals as goal
+
+pub bounds-other-k : goal.bounds-other-k
+bounds-other-k g c = subst (λ m. c.loop-k.k < m) (sym c.requires) c.loop-k-test.true
+
+pub bounds-row-k : goal.bounds-row-k
+bounds-row-k g c = subst (λ m. c.loop-k.k < m) (sym c.loop-k.invariant.len) c.loop-k-test.true
+
+pub bounds-row-k-in-Some : goal.bounds-row-k-in-Some
+bounds-row-k-in-Some g c = subst (λ m. c.loop-k.k < m) (sym c.loop-k.invariant.len) c.loop-k-test.true
 
 pub loop-k-preserved : goal.loop-k-preserved
 loop-k-preserved g c =

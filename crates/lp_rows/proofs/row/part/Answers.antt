@@ -1,7 +1,13 @@
-use Rattle.std.proofs.Common.{◌<◌, ◌≤◌, length, ◌∙◌, sym, arith}
+use Rattle.std.proofs.Common.{◌<◌, ◌≤◌, length, ◌∙◌, sym, subst, arith}
 use Rattle.lp_rows.proofs.Done.{one_so, item-at}
 use Rattle.lp_rows.proofs.Cleared.{whole-times}
 use Rattle.lp_rows.proofs.row.part.Goals as goal
+
+pub bounds-row-k : goal.bounds-row-k
+bounds-row-k g c = subst (λ m. c.loop-k.k < m) (sym c.loop-k.invariant.len) c.loop-k-test.true
+
+pub bounds-row-k-in-Some : goal.bounds-row-k-in-Some
+bounds-row-k-in-Some g c = subst (λ m. c.loop-k.k < m) (sym c.loop-k.invariant.len) c.loop-k-test.true
 
 pub loop-k-preserved : goal.loop-k-preserved
 loop-k-preserved g c =

@@ -1,8 +1,14 @@
-use Rattle.std.proofs.Common.{◌<◌, ◌≤◌, length, ap, ◌∙◌, sym, arith}
+use Rattle.std.proofs.Common.{◌<◌, ◌≤◌, length, ap, ◌∙◌, sym, subst, arith}
 use Rattle.lp_rows.specs.Row.{turned_if}
 use Rattle.lp_rows.proofs.Done.{one_so, item-at}
 use Rattle.lp_rows.proofs.Divided.{turned-whole}
 use Rattle.lp_rows.proofs.row.turn.Goals as goal
+
+pub bounds-row-k : goal.bounds-row-k
+bounds-row-k g c = subst (λ m. c.loop-k.k < m) (sym c.loop-k.invariant.len) c.loop-k-test.true
+
+pub bounds-row-k-in-loop-k : goal.bounds-row-k-in-loop-k
+bounds-row-k-in-loop-k g c = subst (λ m. c.loop-k.k < m) (sym c.loop-k.invariant.len) c.loop-k-test.true
 
 pub loop-k-preserved : goal.loop-k-preserved
 loop-k-preserved g c =

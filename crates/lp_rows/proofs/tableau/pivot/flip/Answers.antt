@@ -1,8 +1,37 @@
-use Rattle.std.proofs.Common.{refl, ◌∙◌}
+use Rattle.std.proofs.Common.{◌<◌, All, length, refl, sym, subst, subst₂, ◌∙◌}
 use Rattle.lp_natural.specs.Whole.{whole}
+use Rattle.lp_rows.specs.Shows.{IsRow}
 use Rattle.lp_rows.proofs.Cleared.{written}
-use Rattle.lp_rows.proofs.SameCounts.{flipped_is}
+use Rattle.lp_rows.proofs.SameCounts.{before_all, flipped_is}
 use Rattle.lp_rows.proofs.tableau.pivot.flip.Goals as goal
+
+pub index-requires : goal.index-requires
+index-requires g c =
+    subst (λ n. c.args.col < n) (sym (c.args.tab.now.status.ok.0 ∙ c.requires.whole.all_statuses))
+    (before_all c.args.col _ (length c.args.tab.now.rows.items) c.requires.column)
+
+pub index-requires-2 : goal.index-requires-2
+index-requires-2 g c =
+    subst (λ n. c.args.col < n) (sym (c.args.tab.now.upper.ok.0 ∙ c.requires.whole.all_upper))
+    (before_all c.args.col _ (length c.args.tab.now.rows.items) c.requires.column)
+
+pub index-requires-3 : goal.index-requires-3
+index-requires-3 g c =
+    subst (λ n. c.args.col < n) (sym (c.args.tab.now.lower.ok.0 ∙ c.requires.whole.all_lower))
+    (before_all c.args.col _ (length c.args.tab.now.rows.items) c.requires.column)
+
+pub move_all-requires-clause-rows : goal.move_all-requires-clause-rows
+move_all-requires-clause-rows g c =
+    subst₂ (λ n rows. All (IsRow g.T.Words.value n) rows) (sym c.width-n.ensures) (sym c.deref_mut.ensures.value)
+    c.requires.whole.each_row
+
+pub move_all-requires-clause-column : goal.move_all-requires-clause-column
+move_all-requires-clause-column g c = subst (λ n. c.args.col < n) (sym c.width-n.ensures) c.requires.column
+
+pub index_mut-requires : goal.index_mut-requires
+index_mut-requires g c =
+    subst (λ n. c.args.col < n) (sym (c.args.tab.now.status.ok.0 ∙ c.requires.whole.all_statuses))
+    (before_all c.args.col _ (length c.args.tab.now.rows.items) c.requires.column)
 
 pub returns : goal.returns
 returns g c h =
