@@ -2,6 +2,7 @@
 --
 -- `is_end`: where certificate and basis are what tableau t gives for an end, the row end of them after `used` steps is
 --   the `row_end` of t's end.
+-- `over_stays`: a run that stopped for good leaves no state from which wider words are to go on.
 -- `few_costs`: where rows of a form's size show a tableau, the form has no more costs than the tableau has columns,
 --   artificial ones counted.
 use Rattle.std.proofs.Common.{◌≡◌, ℕ, ◌+◌, ◌-◌, ◌≤◌, List, length, Option, Some, None}
@@ -25,6 +26,7 @@ use Rattle.lp_rows.specs.Ends.{certificate_as, basis_by}
 pub use Rattle.lp_rows.proofs.SameNumbers.{of_some}
 use Rattle.lp_row_runs.specs.Steps.{ComesTo, EndsAt}
 use Rattle.lp_row_runs.specs.Phases.{after_one, rest_run, end_by, row_end, row_end_in, IsLeft, PausesWith, EndsWith}
+use Rattle.lp_row_runs.specs.Phases.{StaysReady, IsOver}
 use Rattle.lp_row_runs.specs.declared.phases.Phase.{Phase}
 use Rattle.lp_row_runs.specs.declared.phases.Phase.TheVariants as phase
 use Rattle.lp_row_runs.specs.declared.phases.State.{State}
@@ -43,6 +45,12 @@ pub is_end : {N : Type 0} (of : ℚ → N) (t : Tableau) (used : ℕ) (end : Opt
     basis ≡ basis_by t end → row certificate basis used ≡ row_end of (end_by t used end)
 is_end of t used None certificate basis c b = ap₂ (λ c b. row c b used) c b
 is_end of t used (Some end) certificate basis c b = ap₂ (λ c b. row c b used) c b
+
+pub over_stays : {N T : Type 0} (value : T → ℕ) (f : Form) (s : State T) (pause : PhasesPause N) → IsOver pause →
+    StaysReady value f s pause
+over_stays value f s (Ended e) h = tt
+over_stays value f s Narrow h = absurd h
+over_stays value f s GaveUp h = tt
 
 module _ {N T : Type 0} (of : ℚ → N) (value : T → ℕ) (budget : ℕ) (f : Form) where
   -- where both phases end as `end_by` says, a pause that is that end's certificate and basis is what the run pauses

@@ -7,6 +7,8 @@
 -- `done_of`: where a call's progress is `Done`, and P holds if it is `Done`, P holds.
 -- `if_done`: where Q follows from P, and P holds if the progress is `Done`, Q holds if it is `Done`.
 -- `none_over`: the whole number 0 over 1 is the fraction 0.
+-- `turned_whole`: where a pivot took the rows that were lent to those written back, and the basic column was noted, a
+--   whole tableau of rows stays whole.
 -- `turned_here`: where a pivot took the rows that were lent to those written back, it took the rows of the elimination
 --   before to the rows of the one after.
 use Rattle.std.proofs.Common.{◌≡◌, ℕ, ◌+◌, ◌<◌, List, length, get_or, set, replicate, map}
@@ -41,10 +43,12 @@ use Rattle.lp_rows.specs.declared.fractions.Row.{Row}
 use Rattle.lp_rows.specs.Ratio.{bound_of}
 use Rattle.lp_rows.specs.Shows.{IsRow, IsWhole, height, width}
 use Rattle.lp_rows.specs.Moves.{number_at, number_in, AreTurned}
+use Rattle.lp_rows.specs.declared.tableau.tableau.RowTableau.{RowTableau}
 use Rattle.lp_rows.proofs.Asks.{zero-over}
 use Rattle.lp_rows.proofs.Lasts.{over_none}
 use Rattle.lp_rows.proofs.TableauNumbers.{number_in-get}
 use Rattle.lp_rows.proofs.Read.{read_at}
+use Rattle.lp_rows.proofs.SameCounts.{whole_pivoted}
 use Rattle.lp_row_runs.specs.Rows.{AreRowsAt, IsUnsolved, IsSolvedBelow, IfDone}
 use Rattle.lp_row_runs.specs.declared.elimination.Progress.{Progress}
 use Rattle.lp_row_runs.specs.declared.elimination.Progress.TheVariants.{Done, Narrow, Stopped}
@@ -285,6 +289,21 @@ if_done Stopped P Q f h = tt
 
 pub none_over : (z : ℤ) → z ≡ pos 0 → over z 1 ≡ 0ℚ
 none_over z e = ap (λ z. over z 1) e ∙ over_none 1 (omega arith)
+
+pub turned_whole : {T : Type 0} (value : T → ℕ) (j p n : ℕ) (old new : RowTableau T) → IsWhole value old →
+    j < width old → (lent rows : List (Row T)) (costs : Row T) (v w : ℚ) → n ≡ width old → lent ≡ old.rows.items →
+    new.rows.items ≡ rows → new.costs ≡ costs → AreTurned value n p j v w lent rows old.costs costs →
+    new.cols ≡ old.cols → new.status ≡ old.status → new.lower ≡ old.lower → new.upper ≡ old.upper →
+    new.fixed ≡ old.fixed → new.denominator ≡ old.denominator → new.basic.items ≡ set old.basic.items p j →
+    IsWhole value new
+turned_whole value j p n old new whole column lent rows costs v w n_is lent_is rows_is costs_is t cols status lower
+    upper fixed denominator basic =
+    let turned : AreTurned value (width old) p j v w old.rows.items new.rows.items old.costs new.costs =
+    subst (λ c. AreTurned value (width old) p j v w old.rows.items new.rows.items old.costs c) (sym costs_is)
+    (subst₂ (λ x y. AreTurned value (width old) p j v w x y old.costs costs) lent_is (sym rows_is)
+    (subst (λ n. AreTurned value n p j v w lent rows old.costs costs) n_is t)) in
+    whole_pivoted value old new whole p j v w turned column cols basic (ap (λ (ss : _). length ss.items) status) lower
+    (ap (λ (bs : _). length bs.items) upper) fixed denominator
 
 pub turned_here : {T : Type 0} (value : T → ℕ) (f : Form) (basis : List Status) (j p n : ℕ) (old new : Elimination T)
     (s : IsSolvedBelow value f basis j old) (lent rows : List (Row T)) (costs : Row T) (v w : ℚ) → n ≡ width old.tab →

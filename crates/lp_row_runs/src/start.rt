@@ -4,8 +4,9 @@ ghost use Rattle.spec_pivot.specs.declared.status.Status.{Status as statuses};
 ghost use Rattle.spec_simplex.specs.Form.{Form as forms};
 ghost use Rattle.spec_simplex.specs.Eliminate.{IsBasisOf};
 ghost use Rattle.spec_simplex.specs.Begins.{IsProper};
-ghost use Rattle.lp_rows.specs.Shows.{IsWhole, IsReached};
-ghost use Rattle.lp_row_runs.specs.Phases.{HasCosts, IsReady, IsLeft};
+ghost use Rattle.spec_simplex.specs.Tableau as tableaus;
+ghost use Rattle.lp_rows.specs.Shows.{IsWhole, IsReached, Shows};
+ghost use Rattle.lp_row_runs.specs.Phases.{HasCosts, IsReady, IsLeft, rest_run};
 ghost use Rattle.lp_row_runs.specs.Cold.{start_run};
 ghost use Rattle.lp_row_runs.specs.Rows.{HasSize, ShowsStart};
 ghost use Rattle.lp_row_runs.specs.Warm.{BeginsAtBasis, BeginsReady};
@@ -18,6 +19,19 @@ use lp_natural::words::Words;
 use lp_rows::tableau::{RowTableau, from_tableau, wants_phase_one};
 use lp_tableau::Tableau;
 use std::alloc::{AllocError, Global};
+
+// The phase in which a run begins: phase one where an artificial column is basic, and else what follows it.
+fn first_phase<T: Words>(tab: &RowTableau<T>) -> Phase
+    requires { IsWhole T.value tab.now }
+    ensures { (budget : ℕ) (f : forms) (t : tableaus.Tableau) → Shows T.value tab.now t →
+        start_run budget f t ≡ rest_run budget f result 0 t }
+{
+    if wants_phase_one(tab) {
+        Phase::One
+    } else {
+        Phase::Between
+    }
+}
 
 /// The state of a run at the tableau that a form begins with: in phase one where an artificial column is basic, and
 /// else between the phases. There is none where a number is past the width.
@@ -33,11 +47,7 @@ pub(crate) fn at_start<T: Words>(
 {
     match from_tableau::<T>(alloc, tab)? {
         Some(rows) => {
-            let phase = if wants_phase_one(&rows) {
-                Phase::One
-            } else {
-                Phase::Between
-            };
+            let phase = first_phase(&rows);
             Ok(Some(State {
                 tab: rows,
                 phase,
