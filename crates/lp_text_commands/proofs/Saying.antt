@@ -1,5 +1,7 @@
 -- What is written of what is said of an input.
 --
+-- `sends_none`: where memory ran out and nothing was written, that is what the result for lack of memory tells.
+-- `range_reads`: what `range` of one number says and writes is what the command reads and writes.
 -- `basis_reads`: what `basis` says and writes, by its parts, is what the command reads and writes.
 -- `wide_basis_reads`: what `basis --wide` says and writes, by its parts, is what the command reads and writes.
 use Rattle.std.proofs.Common.{◌≡◌, ℕ, List, [], ◌++◌, Option, Result, Ok, Err, OnOk, IfOk, ap, sym, ◌∙◌, subst}
@@ -133,14 +135,13 @@ says_out {G} {F} tells Out line code_of s result refused =
 
 -- ---- what is sent of a text that was printed
 
-module _ (printed : Result ExitStatus AllocError) (text : List ℕ) (taken : Option (List ℕ)) where
-  -- where memory ran out and nothing was written, that is what the result for lack of memory tells
-  pub sends_none : (result : Result ExitStatus Halt) (got : Halt) → result ≡ Err got → got ≡ halts.NoMemory →
-      SendsSo printed text taken taken result
-  sends_none result got is same =
-      subst (λ (r : Result ExitStatus Halt). SendsSo printed text taken taken r) (sym (is ∙ ap Err same))
-      (Appends-nil taken)
+-- where memory ran out and nothing was written, that is what the result for lack of memory tells
+pub sends_none : (Out : List ℕ → Type 0) (code : ℕ) (taken : Option (List ℕ)) (result : Result ExitStatus Halt)
+    (got : Halt) → result ≡ Err got → got ≡ halts.NoMemory → WritesSo Out code taken taken result
+sends_none Out code taken result got is same =
+    subst (λ (r : Result ExitStatus Halt). WritesSo Out code taken taken r) (sym (is ∙ ap Err same)) (Appends-nil taken)
 
+module _ (printed : Result ExitStatus AllocError) (text : List ℕ) (taken : Option (List ℕ)) where
   module _ (status : ExitStatus) (is_printed : printed ≡ Ok status) (piece : List ℕ) (whole : piece ≡ text)
       (now : Option (List ℕ)) where
     -- where the whole text was written, that is what its status tells
@@ -203,7 +204,7 @@ reads_as command is style s result e h =
 
 module _ (style : Style) (reader : TextRead) (begun : reader ≡ record { style = style; state = start; lines = 0 }) where
   -- a reader of a text that has read nothing says of lines what the text's definition says
-  text_agrees : Agrees (TextSays reader) (text_said style)
+  pub text_agrees : Agrees (TextSays reader) (text_said style)
   text_agrees lines answer h = subst (λ (r : TextRead). TextSays r lines answer) begun h
 
   -- a reader of `check` that has read nothing says of lines what `check` says
@@ -244,57 +245,50 @@ module _ (style : Style) (reader : TextRead) (begun : reader ≡ record { style 
   wide_solve_reads command asked s result h =
       reads_as command SolveWide style s result asked (h (text_said_within large_limits style) large_agrees)
 
-  -- where the code's reading and writing are right for `range` of one number, the command reads and writes what its
+-- where `range` of one number writes an allowed output of what the text says, it reads and writes what its definition
+-- has
+pub range_reads : (style : Style) (command : Asked) (moved : Moved) (name : Bor (List ℕ)) → command ≡ Range moved name →
+    (s : Streams) (result : Result ExitStatus Halt) →
+    SaysSo (text_said style) (RangeOut moved name.now) (range_code moved name.now) s result →
+    ReadsText (spelled_text command) style s result
+range_reads style command moved name asked s result h = reads_as command (Range moved name) style s result asked h
+
+-- a text whose model is given to a command
+module _ (style : Style) (command : Asked) (s : Streams) (result : Result ExitStatus Halt) where
+  -- where a command writes an allowed output of a text's model or the line of its fault, it writes what its definition
+  -- allows of what the text says
+  of_text : (Out : TextSaid → List ℕ → Type 0) →
+      ((fault : MpsFault) (written : List ℕ) → written ≡ misspelled_line fault → Out (Err fault) written) →
+      SaysSo (text_said style) (TextOut (λ m. Out (Ok m))) solve_code s result →
+      SaysSo (text_said style) Out solve_code s result
+  of_text Out refused h = says_out (text_said style) Out misspelled_line solve_code s result refused h
+
+  -- where `solve` writes an allowed output of the model or the line of the text's fault, it reads and writes what its
   -- definition has
-  pub range_reads : (command : Asked) (moved : Moved) (name : Bor (List ℕ)) → command ≡ Range moved name →
-      (s : Streams) (result : Result ExitStatus Halt) →
-      ((said : List (Line (List ℕ)) → Option TextSaid) → Agrees (TextSays reader) said →
-      SaysSo said (RangeOut moved name.now) (range_code moved name.now) s result) →
+  pub solve_reads : command ≡ Solve → SaysSo (text_said style) (TextOut (λ m. SolveOut (Ok m))) solve_code s result →
       ReadsText (spelled_text command) style s result
-  range_reads command moved name asked s result h =
-      reads_as command (Range moved name) style s result asked (h (text_said style) text_agrees)
+  solve_reads asked h = reads_as command Solve style s result asked (of_text SolveOut (λ fault written is. is) h)
 
-  -- a text whose model is given to a command
-  module _ (command : Asked) (s : Streams) (result : Result ExitStatus Halt) where
-    -- where a command writes an allowed output of a text's model or the line of its fault, it writes what its
-    -- definition allows of what the text says
-    of_text : (Out : TextSaid → List ℕ → Type 0) →
-        ((fault : MpsFault) (written : List ℕ) → written ≡ misspelled_line fault → Out (Err fault) written) →
-        SaysSo (text_said reader.style) (TextOut (λ m. Out (Ok m))) solve_code s result →
-        SaysSo (text_said style) Out solve_code s result
-    of_text Out refused h =
-        says_out (text_said style) Out misspelled_line solve_code s result refused
-        (subst (λ (r : TextRead). SaysSo (text_said r.style) (TextOut (λ m. Out (Ok m))) solve_code s result) begun h)
+  -- where `presolve` writes an allowed output of the model or the line of the text's fault, it reads and writes what
+  -- its definition has
+  pub presolve_reads : command ≡ Presolve →
+      SaysSo (text_said style) (TextOut (λ m. PresolveOut (Ok m))) solve_code s result →
+      ReadsText (spelled_text command) style s result
+  presolve_reads asked h =
+      reads_as command Presolve style s result asked (of_text PresolveOut (λ fault written is. is) h)
 
-    -- where `solve` writes an allowed output of the model or the line of the text's fault, it reads and writes what its
-    -- definition has
-    pub solve_reads : command ≡ Solve →
-        SaysSo (text_said reader.style) (TextOut (λ m. SolveOut (Ok m))) solve_code s result →
-        ReadsText (spelled_text command) style s result
-    solve_reads asked h = reads_as command Solve style s result asked (of_text SolveOut (λ fault written is. is) h)
+  -- where `iis` writes an allowed output of the model or the line of the text's fault, it reads and writes what its
+  -- definition has
+  pub iis_reads : command ≡ Iis → SaysSo (text_said style) (TextOut (λ m. IisOut (Ok m))) solve_code s result →
+      ReadsText (spelled_text command) style s result
+  iis_reads asked h = reads_as command Iis style s result asked (of_text IisOut (λ fault written is. is) h)
 
-    -- where `presolve` writes an allowed output of the model or the line of the text's fault, it reads and writes what
-    -- its definition has
-    pub presolve_reads : command ≡ Presolve →
-        SaysSo (text_said reader.style) (TextOut (λ m. PresolveOut (Ok m))) solve_code s result →
-        ReadsText (spelled_text command) style s result
-    presolve_reads asked h =
-        reads_as command Presolve style s result asked (of_text PresolveOut (λ fault written is. is) h)
-
-    -- where `iis` writes an allowed output of the model or the line of the text's fault, it reads and writes what its
-    -- definition has
-    pub iis_reads : command ≡ Iis →
-        SaysSo (text_said reader.style) (TextOut (λ m. IisOut (Ok m))) solve_code s result →
-        ReadsText (spelled_text command) style s result
-    iis_reads asked h = reads_as command Iis style s result asked (of_text IisOut (λ fault written is. is) h)
-
-    -- where `range all` writes an allowed output of the model or the line of the text's fault, it reads and writes what
-    -- its definition has
-    pub ranges_reads : command ≡ RangeAll →
-        SaysSo (text_said reader.style) (TextOut (λ m. RangesOut (Ok m))) solve_code s result →
-        ReadsText (spelled_text command) style s result
-    ranges_reads asked h =
-        reads_as command RangeAll style s result asked (of_text RangesOut (λ fault written is. is) h)
+  -- where `range all` writes an allowed output of the model or the line of the text's fault, it reads and writes what
+  -- its definition has
+  pub ranges_reads : command ≡ RangeAll →
+      SaysSo (text_said style) (TextOut (λ m. RangesOut (Ok m))) solve_code s result →
+      ReadsText (spelled_text command) style s result
+  ranges_reads asked h = reads_as command RangeAll style s result asked (of_text RangesOut (λ fault written is. is) h)
 
 -- ---- and of a basis file after it
 

@@ -1,9 +1,8 @@
 -- A model that is said of a text is within the usual limits.
 --
 -- `heard_kept`: a model that was heard of a text is usual.
--- `start_agrees`: a reader of a text that has read nothing says what the definition of the text says.
 -- `may_take`: where one property implies another, what may be taken for the one may be taken for the other.
-use Rattle.std.proofs.Common.{◌≡◌, ℕ, ◌+◌, List, [], ◌∷◌, ◌++◌, take, Option, Some, Result, Ok, Err, ap, subst₂, ⊎_elim}
+use Rattle.std.proofs.Common.{◌≡◌, ℕ, ◌+◌, List, [], ◌∷◌, ◌++◌, take, Option, Some, Result, Ok, Err, ap, ⊎_elim}
 use Rattle.spec_text.specs.declared.line.Line.{Line}
 use Rattle.spec_text.specs.declared.line.Line.TheVariants as line
 use Rattle.spec_text.specs.Lines.{lines_of, ended_lines_of, input_limit}
@@ -16,9 +15,7 @@ use Rattle.spec_mps.specs.Steps as text
 use Rattle.spec_mps.proofs.SpelledKept.{spelled_kept}
 use Rattle.spec_server.specs.Said.{said_by, follow}
 use Rattle.spec_server.specs.TextSaid.{TextSaid, text_said, text_step, behind_line}
-use Rattle.lp_mps.specs.TextRead.{TextRead}
-use Rattle.lp_line.specs.Stages.{TextSays}
-use Rattle.lp_text_commands.specs.Hearing.{Agrees, Hears}
+use Rattle.lp_text_commands.specs.Hearing.{Hears}
 use Rattle.lp_text_commands.specs.Said.{MayTake}
 
 -- where the same is said of two texts, the models are the same
@@ -57,13 +54,6 @@ pub heard_kept : (style : Style) (before after : Option (List ℕ)) (what : Text
 heard_kept style before after what h =
     ⊎_elim (λ early. said_kept style (ended_lines_of (take input_limit (h.read ++ []))) what (early []))
     (λ at_end. said_kept style (lines_of h.read ++ line.End ∷ []) what at_end.all) h.is_said
-
--- a reader at the start of a text
-pub start_agrees : (reader : TextRead) → reader.state ≡ start → reader.lines ≡ 0 →
-    Agrees (TextSays reader) (text_said reader.style)
-start_agrees reader state lines said answer h =
-    subst₂ (λ s n. said_by (text_step usual_limits reader.style) (record { state = s; lines = n }) said ≡ answer) state
-    lines h
 
 -- what takes all of a kind takes what is said, if that is of the kind
 pub may_take : {G F : Type 0} (Kind Takes : G → Type 0) (what : Result G F) → ((given : G) → Kind given → Takes given) →

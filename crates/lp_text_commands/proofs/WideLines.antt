@@ -2,7 +2,7 @@
 --
 -- `leads_from`: a line leads to the state, or to the result, that one step of the reading gives.
 -- `same_line`: where a reply has the same text with wide numbers, it has the same line.
--- `optimal_line`: the words `YES OPTIMAL` and the value are the line of an accepted optimum.
+-- `yes_line`: the word `YES` and what is known are the line of an accepted certificate.
 use Rattle.std.proofs.Common.{◌≡◌, ℕ, ◌+◌, ◌≤◌, Result, List, [], ◌∷◌, ◌++◌, ap, ◌∙◌, arith, refl, subst}
 use Rattle.std.proofs.Common.{append_assoc}
 use Rattle.std.specs.Prelude.{IfOk, codes}
@@ -11,9 +11,9 @@ use Rattle.spec_text.specs.declared.line.Line.TheVariants.{End}
 use Rattle.spec_exact.specs.Fraction.{ℚ}
 use Rattle.spec_model.specs.Model.{Model}
 use Rattle.spec_model.specs.Kept.{large_limits}
+use Rattle.spec_check.specs.declared.certificate.Known.{Known}
 use Rattle.spec_check.specs.declared.certificate.Known.TheVariants as known
 use Rattle.spec_check.specs.declared.certificate.Verdict.TheVariants as verdict
-use Rattle.spec_mps.specs.WideWritten.{wide_text}
 use Rattle.spec_server.specs.declared.asks.Reply.TheVariants as reply
 use Rattle.spec_mps.specs.Steps as text
 use Rattle.spec_certificate.specs.declared.progress.Progress.TheVariants as progress
@@ -22,6 +22,7 @@ use Rattle.spec_certificate.specs.NarrowText as certificate
 use Rattle.spec_certificate.specs.WideText.{wide}
 use Rattle.spec_server.specs.Machine.{ExactReply}
 use Rattle.spec_server.specs.Output.{check_line, reply_text}
+use Rattle.spec_server.specs.WideLines.{wide_known_text}
 use Rattle.spec_commands.specs.CheckOut as reading
 use Rattle.spec_commands.specs.CheckWideOut.{behind_wide, wide_step, wide_reply_text, wide_check_line}
 use Rattle.lp_line.specs.declared.hearing.Step.{Step}
@@ -73,14 +74,21 @@ pub same_line : (replied : ExactReply) → wide_reply_text replied ≡ reply_tex
 unfolding wide_check_line check_line
 same_line replied e = ap (λ text. text ++ 10 ∷ []) e
 
--- the line of an optimal value, piece by piece
-pub optimal_line : (v : ℚ) (first now next last piece text : List ℕ) → now ≡ first ++ codes "YES OPTIMAL " →
-    next ≡ now ++ piece → piece ≡ text → text ≡ wide_text v → last ≡ next ++ 10 ∷ [] →
-    last ≡ first ++ wide_check_line (reply.Checked (verdict.Yes (known.Optimal v)))
+-- the word `YES ` and what is known are the text of the reply that accepts a certificate
+yes_text : (what : Known ℚ) → codes "YES " ++ wide_known_text what ≡ wide_reply_text (reply.Checked (verdict.Yes what))
+unfolding reply_text
+yes_text (known.Optimal v) = refl
+yes_text known.Infeasible = refl
+yes_text known.Unbounded = refl
+
+-- the line of an accepted certificate, piece by piece
+pub yes_line : (what : Known ℚ) (first now next last : List ℕ) → now ≡ first ++ codes "YES " →
+    next ≡ now ++ wide_known_text what → last ≡ next ++ 10 ∷ [] →
+    last ≡ first ++ wide_check_line (reply.Checked (verdict.Yes what))
 unfolding wide_check_line
-optimal_line v first now next last piece text is_now is_next is_piece is_text is_last =
+yes_line what first now next last is_now is_next is_last =
     is_last
     ∙ ap (λ bs. bs ++ 10 ∷ [])
-    (is_next ∙ ap (λ bs. now ++ bs) (is_piece ∙ is_text) ∙ ap (λ bs. bs ++ wide_text v) is_now
-    ∙ append_assoc first (codes "YES OPTIMAL ") (wide_text v))
-    ∙ append_assoc first (codes "YES OPTIMAL " ++ wide_text v) (10 ∷ [])
+    (is_next ∙ ap (λ bs. bs ++ wide_known_text what) is_now ∙ append_assoc first (codes "YES ") (wide_known_text what)
+    ∙ ap (λ bs. first ++ bs) (yes_text what))
+    ∙ append_assoc first (wide_reply_text (reply.Checked (verdict.Yes what))) (10 ∷ [])

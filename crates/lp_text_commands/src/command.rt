@@ -2,6 +2,7 @@
 ghost use Rattle.std.specs.Prelude.{◌≡◌, ◌++◌, ℕ, List, IfOk, OnOk};
 ghost use Rattle.lp_text_commands.specs.Prints.{Prints};
 
+use crate::exit_status::ExitStatus;
 use lp_base::Bytes;
 use std::alloc::{AllocError, Global};
 
@@ -46,19 +47,20 @@ pub(crate) trait Command {
         may_make command given outcome → may_write command given (lines command given outcome) };
 }
 
-/// Writes the lines of an outcome, and lets it go.
-pub(crate) fn print<C: Command>(
+/// Runs a command on what it is given, appends the lines of its outcome to the text, and gives status 0.
+pub(crate) fn perform<C: Command>(
     alloc: Global,
     command: &C,
     given: &C::Given,
-    outcome: C::Outcome,
     to: &mut Bytes,
-) -> Result<(), AllocError>
-    requires takes { C.takes command.now given.now }
-    requires made { C.may_make command.now given.now outcome }
-    ensures { OnOk result (Prints (C.may_write command.now given.now) to.old to.new) }
+) -> Result<ExitStatus, AllocError>
+    requires { C.takes command.now given.now }
+    ensures output { OnOk result (Prints (C.may_write command.now given.now) to.old to.new) }
+    ensures status { IfOk result (λ status. status.code ≡ 0) }
 {
-    let printed = command.write(alloc, given, &outcome, to);
+    let outcome = command.run(alloc, given)?;
+    let written = command.write(alloc, given, &outcome, to);
     drop(outcome);
-    printed
+    written?;
+    Ok(ExitStatus::DONE)
 }

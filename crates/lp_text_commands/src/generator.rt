@@ -13,7 +13,7 @@ mod draws;
 mod lines;
 mod parts;
 
-use crate::command::{Command, print};
+use crate::command::{Command, perform};
 use crate::solve::print_answer;
 use lines::{print_pivots, print_size};
 use lp_base::{Bytes, Sink, send};
@@ -76,21 +76,19 @@ pub fn generate<K: Sink>(
     ensures output { Writes (GenOut seed rows columns) (K.taken out.old) (K.taken out.new) result }
     ensures write { IsErrOf result Halt.Write → Rose (K.write_faults out.old) (K.write_faults out.new) }
 {
-    let model = make(alloc, seed, rows, columns)?;
-    let text = generated_text(alloc, model.model());
-    drop(model);
-    let text = text?;
+    let text = generated_text(alloc, seed, rows, columns)?;
     send(out, text.as_slice())?;
     Ok(())
 }
 
-// The text that `gen` writes of the model that it made: its size, and what a solve of it ends with.
-fn generated_text(alloc: Global, model: &Model) -> Result<Bytes, AllocError>
-    requires { IsUsual model.now }
-    ensures { IfOk result (SolvedOut model.now) }
+// The text that `gen` writes of the model that it makes: its size, and what a solve of it ends with.
+fn generated_text(alloc: Global, seed: u32, rows: u32, columns: u32) -> Result<Bytes, AllocError>
+    requires rows { rows ≤ row_limit }
+    requires columns { columns ≤ column_limit }
+    ensures { IfOk result (GenOut seed rows columns) }
 {
+    let made = make(alloc, seed, rows, columns)?;
     let mut text = Bytes::new(alloc);
-    let outcome = SolveMade.run(alloc, model)?;
-    print(alloc, &SolveMade, model, outcome, &mut text)?;
+    perform(alloc, &SolveMade, made.model(), &mut text)?;
     Ok(text)
 }

@@ -4,7 +4,7 @@ ghost use Rattle.lp_base.specs.Causes.{Rose};
 ghost use Rattle.spec_text.specs.declared.line.Line.{Line as exact_line};
 ghost use Rattle.lp_text_commands.specs.Prints.{Prints};
 ghost use Rattle.lp_text_commands.specs.Hearing.{Agrees, HearsSo, SaysSo};
-ghost use Rattle.lp_text_commands.specs.Writing.{SendsSo};
+ghost use Rattle.lp_text_commands.specs.Writing.{WritesSo};
 ghost use Rattle.spec_server.specs.Streams.{streams};
 
 use crate::exit_status::ExitStatus;
@@ -49,17 +49,19 @@ pub(crate) fn hear_input<S: Source, T: Stage>(
     }
 }
 
-/// Writes the text to the sink, and gives the status with which it was printed. Where memory did not suffice for the
-/// text, nothing is written.
-pub(crate) fn send_printed<K: Sink>(
-    printed: Result<ExitStatus, AllocError>,
-    text: Bytes,
+/// Writes the output of what is said to the sink, and gives its exit status. Where memory does not suffice for the
+/// output, nothing is written.
+pub(crate) fn send_output<O: Output, K: Sink>(
+    alloc: Global,
+    said: O,
     out: &mut K,
 ) -> Result<ExitStatus, Halt>
-    ensures output { SendsSo printed text (K.taken out.old) (K.taken out.new) result }
+    requires { O.can_print said }
+    ensures output { WritesSo (O.may_write said) (O.code said) (K.taken out.old) (K.taken out.new) result }
     ensures write { IsErrOf result Halt.Write → Rose (K.write_faults out.old) (K.write_faults out.new) }
 {
-    let status = printed?;
+    let mut text = Bytes::new(alloc);
+    let status = said.print(alloc, &mut text)?;
     send(out, text.as_slice())?;
     Ok(status)
 }
@@ -83,7 +85,8 @@ where
     ensures write { IsErrOf result Halt.Write → Rose (K.write_faults out.old) (K.write_faults out.new) }
 {
     let said = hear_input(alloc, first, src)?;
-    let mut written = Bytes::new(alloc);
-    let printed = said.print(alloc, &mut written);
-    send_printed(printed, written, out)
+    let mut text = Bytes::new(alloc);
+    let status = said.print(alloc, &mut text)?;
+    send(out, text.as_slice())?;
+    Ok(status)
 }

@@ -10,9 +10,9 @@
 //! |---|---|---|
 //! | `read_text` | reads the text that a source gives, and writes what the command says of it | src/text |
 //! | `ExitStatus` | how a command ended | src/exit_status |
-//! | `Command`, `print` | a command: its `run` and its `write`; and what is written of a run | src/command |
+//! | `Command`, `perform` | a command: its `run` and its `write`; and both, one after the other | src/command |
 //! | `say`, `Output` | reads an input, and writes what is said of it, whatever says it | src/hearing |
-//! | `print_reply` | writes the line of a reply | src/reply |
+//! | `print_reply`, `print_named` | writes the line of a reply; the words with which some lines begin | src/reply, src/words |
 //! | `say_text`, `Said` | the same of a text, whose model is given to a command | src/said |
 //! | `Solve`, `SolveWide` | solves the model, at 127 bits or at any width | src/solve |
 //! | `print_answer`, `print_past`, `print_end` | the lines of a solve, of which other commands write some | src/solve/lines |
@@ -46,6 +46,7 @@ mod reply;
 mod said;
 mod solve;
 mod text;
+mod words;
 
 pub use exit_status::ExitStatus;
 pub use generator::{generate, make};

@@ -37,7 +37,7 @@ pub fn read_text<S: Source, K: Sink>(
     ensures write { IsErrOf result Halt.Write → Rose (K.write_faults out.old) (K.write_faults out.new) }
 {
     match command {
-        TextCommand::Solve => say_text(alloc, Reader::new(alloc, style), Solve, src, out),
+        TextCommand::Solve => say_text(alloc, style, Solve, src, out),
         TextCommand::SolveWide => say(alloc, LargeReader::new(alloc, style), src, out),
         TextCommand::Check => say(alloc, CheckStage::Text(Reader::new(alloc, style)), src, out),
         TextCommand::CheckWide => {
@@ -50,11 +50,9 @@ pub fn read_text<S: Source, K: Sink>(
         }
         TextCommand::Basis => say_basis(alloc, USUAL_LIMITS, style, SolveFrom, src, out),
         TextCommand::BasisWide => say_basis(alloc, LARGE_LIMITS, style, SolveWideFrom, src, out),
-        TextCommand::Presolve => say_text(alloc, Reader::new(alloc, style), Presolve, src, out),
-        TextCommand::Iis => say_text(alloc, Reader::new(alloc, style), FindIis, src, out),
-        TextCommand::Range { moved, name } => {
-            say_range(alloc, Reader::new(alloc, style), moved, name, src, out)
-        }
-        TextCommand::RangeAll => say_text(alloc, Reader::new(alloc, style), RangeAll, src, out),
+        TextCommand::Presolve => say_text(alloc, style, Presolve, src, out),
+        TextCommand::Iis => say_text(alloc, style, FindIis, src, out),
+        TextCommand::Range { moved, name } => say_range(alloc, style, moved, name, src, out),
+        TextCommand::RangeAll => say_text(alloc, style, RangeAll, src, out),
     }
 }

@@ -1,9 +1,10 @@
 // What is wrong with a text or the basis file after it, as it is written.
-ghost use Rattle.std.specs.Prelude.{◌≡◌, ◌++◌, OnOk};
+ghost use Rattle.std.specs.Prelude.{◌≡◌, ◌++◌, IfOk, OnOk};
 ghost use Rattle.spec_bas.specs.Steps as checks;
 ghost use Rattle.spec_commands.specs.BasisOut.{basis_fault_line};
 ghost use Rattle.spec_commands.specs.declared.basis.BasisFault.TheVariants as faults;
 
+use crate::exit_status::ExitStatus;
 use crate::reply::print_reply;
 use lp_base::Bytes;
 use lp_line::{Refusal, Reply, push_numbered};
@@ -11,21 +12,23 @@ use spec_bas::{BasCode, BasFault};
 use spec_commands::BasisFault;
 use std::alloc::{AllocError, Global};
 
-/// Appends the line of a fault in a text or in the basis file after it.
+/// Appends the line of a fault in a text or in the basis file after it, and gives status 9.
 #[tactic(auto, unfolding(spec_commands::specs::BasisOut::basis_fault_line))]
 pub(crate) fn print_fault(
     alloc: Global,
     fault: BasisFault,
     to: &mut Bytes,
-) -> Result<(), AllocError>
-    ensures { OnOk result (to.new ≡ to.old ++ basis_fault_line fault) }
+) -> Result<ExitStatus, AllocError>
+    ensures output { OnOk result (to.new ≡ to.old ++ basis_fault_line fault) }
+    ensures status { IfOk result (λ status. status.code ≡ 9) }
 {
     match fault {
         BasisFault::Text(why) => {
-            print_reply(alloc, Reply::Refused(Refusal::Misspelled(why)), to)
+            print_reply(alloc, Reply::Refused(Refusal::Misspelled(why)), to)?;
         }
-        BasisFault::File(why) => print_basis_fault(alloc, why, to),
+        BasisFault::File(why) => print_basis_fault(alloc, why, to)?,
     }
+    Ok(ExitStatus::REFUSED)
 }
 
 // The number that stands behind `B` in the line of a fault of a basis file.

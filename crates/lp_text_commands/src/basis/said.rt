@@ -10,9 +10,9 @@ ghost use Rattle.lp_text_commands.specs.Said.{MayTake, SaidOut};
 use crate::basis::faults::print_fault;
 use crate::basis::stage::{BasisSaid, BasisStage};
 use crate::basis::starting::Handed;
-use crate::command::{Command, print};
+use crate::command::{Command, perform};
 use crate::exit_status::ExitStatus;
-use crate::hearing::{Output, hear_input, send_printed};
+use crate::hearing::{Output, hear_input, send_output};
 use lp_base::{Bytes, Sink, Source};
 use lp_line::Halt;
 use lp_mps::read::ReaderWithin;
@@ -40,16 +40,11 @@ impl<C: Command<Given = Handed> + Drop> Output for SaidWithBasis<C> {
         let SaidWithBasis { said, command } = self;
         match said {
             Ok(handed) => {
-                let outcome = command.run(alloc, &handed)?;
-                let printed = print(alloc, &command, &handed, outcome, to);
+                let status = perform(alloc, &command, &handed, to);
                 drop(handed);
-                printed?;
-                Ok(ExitStatus::DONE)
+                status
             }
-            Err(fault) => {
-                print_fault(alloc, fault, to)?;
-                Ok(ExitStatus::REFUSED)
-            }
+            Err(fault) => print_fault(alloc, fault, to),
         }
     }
 }
@@ -74,7 +69,5 @@ pub(crate) fn say_basis<C: Command<Given = Handed> + Drop, S: Source, K: Sink>(
 {
     let text = ReaderWithin::new(alloc, limits, style);
     let said = hear_input(alloc, BasisStage::Text(text), src)?;
-    let mut written = Bytes::new(alloc);
-    let printed = SaidWithBasis { said, command }.print(alloc, &mut written);
-    send_printed(printed, written, out)
+    send_output(alloc, SaidWithBasis { said, command }, out)
 }

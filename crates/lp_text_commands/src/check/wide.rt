@@ -1,6 +1,5 @@
 // The command `check --wide`: the verdict on a certificate whose numbers may have any width, as it is written.
 ghost use Rattle.std.specs.Prelude.{◌≡◌, ◌++◌, IfOk, OnOk};
-ghost use Rattle.spec_check.specs.declared.certificate.Known.TheVariants as known;
 ghost use Rattle.spec_check.specs.declared.certificate.Verdict.TheVariants as verdict;
 ghost use Rattle.spec_server.specs.declared.asks.Reply.TheVariants as reply;
 ghost use Rattle.spec_commands.specs.CheckOut.{check_code};
@@ -12,9 +11,7 @@ use crate::exit_status::ExitStatus;
 use crate::hearing::Output;
 use lp_base::Bytes;
 use lp_check::wide::{Known, Verdict};
-use lp_line::{Refusal, Reply};
-use lp_numtext::wide_text;
-use lp_ratio::Ratio;
+use lp_line::{Refusal, Reply, push_wide_known};
 use std::alloc::{AllocError, Global};
 
 /// The verdict on a certificate, or why there is none.
@@ -69,14 +66,12 @@ impl Output for WideReply {
     }
 }
 
-// Appends the line that says yes, with the optimal value, of any width.
-#[tactic(auto, unfolding(spec_commands::specs::CheckWideOut::wide_check_line))]
-fn print_optimal(alloc: Global, value: &Ratio, to: &mut Bytes) -> Result<(), AllocError>
-    ensures { OnOk result (to.new ≡ to.old ++ wide_check_line (reply.Checked (verdict.Yes (known.Optimal value.now)))) }
+// Appends the line that says yes and what is known, with an optimal value of any width.
+fn print_yes(alloc: Global, what: &Known, to: &mut Bytes) -> Result<(), AllocError>
+    ensures { OnOk result (to.new ≡ to.old ++ wide_check_line (reply.Checked (verdict.Yes what.now))) }
 {
-    let text = wide_text(alloc, value)?;
-    to.extend(b"YES OPTIMAL ")?;
-    to.extend(text.as_slice())?;
+    to.extend(b"YES ")?;
+    push_wide_known(alloc, what, to)?;
     to.push(b'\n')
 }
 
@@ -95,19 +90,11 @@ fn print_verdict(alloc: Global, verdict: Verdict, to: &mut Bytes) -> Result<Exit
     ensures status { IfOk result (λ status. status.code ≡ 0) }
 {
     match verdict {
-        Verdict::Yes(Known::Optimal(value)) => {
-            let printed = print_optimal(alloc, &value, to);
-            drop(value);
+        Verdict::Yes(what) => {
+            let printed = print_yes(alloc, &what, to);
+            drop(what);
             printed?;
             Ok(ExitStatus::DONE)
-        }
-        Verdict::Yes(Known::Infeasible) => {
-            let infeasible = spec_check::Verdict::Yes(spec_check::Known::Infeasible);
-            print_narrow(alloc, Reply::Checked(infeasible), to)
-        }
-        Verdict::Yes(Known::Unbounded) => {
-            let unbounded = spec_check::Verdict::Yes(spec_check::Known::Unbounded);
-            print_narrow(alloc, Reply::Checked(unbounded), to)
         }
         Verdict::No(n) => print_narrow(alloc, Reply::Checked(spec_check::Verdict::No(n)), to),
     }

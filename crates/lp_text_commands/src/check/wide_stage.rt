@@ -3,6 +3,7 @@ ghost use Rattle.std.specs.Prelude.{◌≡◌, ◌<◌, ◌-◌, ◌^◌, IfOk, 
 ghost use Rattle.spec_check.specs.Settle.{certificate_for};
 ghost use Rattle.spec_commands.specs.CheckOut.{InText, InCertificate, Says};
 ghost use Rattle.spec_commands.specs.CheckWideOut.{wide_step, wide_verdict_on};
+ghost use Rattle.lp_text_commands.specs.WideSaid.{reply_of};
 ghost use Rattle.lp_text_commands.specs.WideStage.{wide_step_of, wide_count_of, WideSays};
 
 use crate::check::wide::{WideReply, WideSaid};
@@ -103,25 +104,25 @@ fn verdict_step(alloc: Global, model: &Model, raw: RawOf<Ratio>) -> Result<WideS
 {
     let said = verdict_on(alloc, model, &raw);
     drop(raw);
-    Ok(Step::Says(said?))
+    Ok(Step::Says(WideReply::new(said?)))
 }
 
 // What `check --wide` says of a certificate for a model: a verdict, or a refusal where the certificate does not fit the
 // model.
-fn verdict_on(alloc: Global, model: &Model, raw: &RawOf<Ratio>) -> Result<WideReply, AllocError>
-    ensures { IfOk result (λ said. said ≡ wide_verdict_on model.now (certificate_for model.now raw.now)) }
+fn verdict_on(alloc: Global, model: &Model, raw: &RawOf<Ratio>) -> Result<WideSaid, AllocError>
+    ensures { IfOk result (λ said. reply_of said ≡ wide_verdict_on model.now (certificate_for model.now raw.now)) }
 {
     match settle(alloc, model, raw) {
         Ok(certificate) => {
             let verdict = check(alloc, model, &certificate);
             drop(certificate);
-            Ok(WideReply::new(WideSaid::Checked(verdict?)))
+            Ok(WideSaid::Checked(verdict?))
         }
         Err(SettleError::Fault(SettleFault::UnknownName(name))) => {
-            Ok(WideReply::new(WideSaid::Refused(Refusal::Name(name))))
+            Ok(WideSaid::Refused(Refusal::Name(name)))
         }
         Err(SettleError::Fault(SettleFault::Repeated(name))) => {
-            Ok(WideReply::new(WideSaid::Refused(Refusal::Repeated(name))))
+            Ok(WideSaid::Refused(Refusal::Repeated(name)))
         }
         Err(SettleError::NoMemory) => Err(AllocError),
     }

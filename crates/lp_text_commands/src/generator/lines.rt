@@ -7,6 +7,7 @@ ghost use Rattle.spec_server.specs.Machine.{pivots_of_solved};
 ghost use Rattle.spec_server.specs.Output.{pivots_text};
 
 use lp_base::Bytes;
+use lp_line::push_numbered;
 use lp_model::Model;
 use lp_solve::End;
 use std::alloc::{AllocError, Global};
@@ -39,9 +40,9 @@ fn count_entries(model: &Model) -> u64
 pub(crate) fn print_pivots(alloc: Global, solved: &End, to: &mut Bytes) -> Result<(), AllocError>
     ensures { OnOk result (to.new ≡ to.old ++ codes "PIVOTS " ++ pivots_text (pivots_of_solved solved.now) ++ 10 ∷ []) }
 {
-    let line = match solved {
-        End::Ended { pivots, .. } => format!(in alloc; "PIVOTS {pivots}\n")?,
-        End::Past(_) | End::Spent => "PIVOTS -\n".to_string(alloc)?,
-    };
-    to.extend(line.as_bytes())
+    match solved {
+        End::Ended { pivots, .. } => push_numbered(alloc, b"PIVOTS ", *pivots, to)?,
+        End::Past(_) | End::Spent => to.extend(b"PIVOTS -")?,
+    }
+    to.push(b'\n')
 }

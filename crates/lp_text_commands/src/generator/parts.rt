@@ -1,33 +1,23 @@
 // The parts of a generated model, in the order in which they are drawn.
-ghost use Rattle.std.specs.Prelude.{◌≡◌, ◌<◌, ◌≤◌, IfOk, OnOk};
+ghost use Rattle.std.specs.Prelude.{◌≡◌, ◌<◌, ◌≤◌, ◌++◌, IfOk, OnOk, decimal};
 ghost use Rattle.spec_model.specs.Kept.{row_limit, column_limit};
 ghost use Rattle.spec_commands.specs.Draws.{after};
 ghost use Rattle.spec_commands.specs.Generated as generator;
 
 use crate::generator::draws::Draws;
-use lp_base::Name;
+use lp_base::{Bytes, Name};
 use lp_frac::{Entries, zero};
+use lp_line::push_numbered;
 use lp_model::{Column, Kind, Model, Row, Sense, UsualModel};
 use std::alloc::{AllocError, Global};
 
-// The name of row i: R1 is the first one.
-#[tactic(auto, unfolding(spec_commands::specs::Generated::row_name))]
-fn row_name(alloc: Global, i: u32) -> Result<Name, AllocError>
-    requires { i < row_limit }
-    ensures { IfOk result (λ name. name ≡ generator.row_name i) }
+// The name that is a letter and a number.
+fn numbered(alloc: Global, letter: &[u8], number: u32) -> Result<Name, AllocError>
+    ensures { IfOk result (λ name. name ≡ letter.now ++ decimal number) }
 {
-    let text = format!(in alloc; "R{}", i + 1)?;
-    Name::from_slice(alloc, text.as_bytes())
-}
-
-// The name of column j: C1 is the first one.
-#[tactic(auto, unfolding(spec_commands::specs::Generated::column_name))]
-fn column_name(alloc: Global, j: u32) -> Result<Name, AllocError>
-    requires { j < column_limit }
-    ensures { IfOk result (λ name. name ≡ generator.column_name j) }
-{
-    let text = format!(in alloc; "C{}", j + 1)?;
-    Name::from_slice(alloc, text.as_bytes())
+    let mut text = Bytes::new(alloc);
+    push_numbered(alloc, letter, u64::from(number), &mut text)?;
+    Name::from_slice(alloc, text.as_slice())
 }
 
 // Draws the entries of a column, in about one of three of so many rows. Each is a whole number from 1 to 9.
@@ -45,8 +35,8 @@ fn entries(alloc: Global, draws: &mut Draws, rows: u32) -> Result<Entries, Alloc
 }
 
 // Draws column j of a model of so many rows: its cost, its upper bound, and an entry in about one of three rows. Its
-// lower bound is 0.
-#[tactic(auto, unfolding(spec_commands::specs::Generated::generated_column))]
+// lower bound is 0, and C1 is the name of the first column.
+#[tactic(auto, unfolding(spec_commands::specs::Generated::generated_column, spec_commands::specs::Generated::column_name))]
 fn column(alloc: Global, draws: &mut Draws, rows: u32, j: u32) -> Result<Column, AllocError>
     requires { j < column_limit }
     ensures column { IfOk result (λ column. column ≡ generator.generated_column rows j draws.old) }
@@ -56,7 +46,7 @@ fn column(alloc: Global, draws: &mut Draws, rows: u32, j: u32) -> Result<Column,
     let upper = draws.number_from(1, 20);
     let entries = entries(alloc, draws, rows)?;
     Ok(Column {
-        name: column_name(alloc, j)?,
+        name: numbered(alloc, b"C", j + 1)?,
         cost,
         lower: Some(zero()),
         upper: Some(upper),
@@ -82,15 +72,16 @@ fn columns(
     Ok(columns)
 }
 
-// Draws row `i`: its sum is at most the right side that is drawn, a whole number from 10 to 99.
-#[tactic(auto, unfolding(spec_commands::specs::Generated::generated_row))]
+// Draws row `i`: its sum is at most the right side that is drawn, a whole number from 10 to 99. R1 is the name of the
+// first row.
+#[tactic(auto, unfolding(spec_commands::specs::Generated::generated_row, spec_commands::specs::Generated::row_name))]
 fn row(alloc: Global, draws: &mut Draws, i: u32) -> Result<Row, AllocError>
     requires { i < row_limit }
     ensures row { IfOk result (λ row. row ≡ generator.generated_row i draws.old) }
     ensures state { OnOk result (draws.new ≡ after 1 draws.old) }
 {
     Ok(Row {
-        name: row_name(alloc, i)?,
+        name: numbered(alloc, b"R", i + 1)?,
         kind: Kind::L,
         rhs: draws.number_from(10, 90),
         range: None,

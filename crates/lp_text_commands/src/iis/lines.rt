@@ -18,7 +18,7 @@ use lp_base::Bytes;
 use lp_certificate::cert_text;
 use lp_check::Certificate;
 use lp_iis::{Points, Sides, only};
-use lp_line::print_lines;
+use lp_line::{print_lines, push_numbered};
 use lp_model::Model;
 use lp_solve::End;
 use std::alloc::{AllocError, Global};
@@ -65,8 +65,8 @@ pub(crate) fn print_found(
 fn print_heading(alloc: Global, count: usize, to: &mut Bytes) -> Result<(), AllocError>
     ensures { OnOk result (to.new ≡ to.old ++ ((codes "INFEASIBLE\nIIS " ++ decimal count) ++ 10 ∷ [])) }
 {
-    let lines = format!(in alloc; "INFEASIBLE\nIIS {count}\n")?;
-    to.extend(lines.as_bytes())
+    push_numbered(alloc, b"INFEASIBLE\nIIS ", count as u64, to)?;
+    to.push(b'\n')
 }
 
 // Appends the lines of the certificate, which is one of the model with the sides alone.

@@ -6,10 +6,12 @@ ghost use Rattle.spec_certificate.specs.TextWritten as written;
 ghost use Rattle.spec_server.specs.Output.{ended_lines};
 ghost use Rattle.spec_commands.specs.IisOut.{point_lines};
 
+use crate::words::print_named;
 use lp_base::Bytes;
 use lp_check::part;
 use lp_frac::{Frac, Fracs, is_zero};
 use lp_iis::Points;
+use lp_line::push_numbered;
 use lp_model::Model;
 use lp_numtext::write;
 use std::alloc::{AllocError, Global};
@@ -18,9 +20,7 @@ use std::alloc::{AllocError, Global};
 fn print_text(alloc: Global, name: &[u8], value: Frac, to: &mut Bytes) -> Result<(), AllocError>
     ensures { OnOk result (to.new ≡ to.old ++ (written.part_text letter.X name.now value ++ 10 ∷ [])) }
 {
-    to.extend(b"x ")?;
-    to.extend(name)?;
-    to.push(b' ')?;
+    print_named(b"x ", name, to)?;
     write(alloc, value, to)?;
     to.push(b'\n')
 }
@@ -59,14 +59,6 @@ fn print_parts(
     Ok(())
 }
 
-// Writes the line that a point begins with, with its number.
-fn print_number(alloc: Global, number: u64, to: &mut Bytes) -> Result<(), AllocError>
-    ensures { OnOk result (to.new ≡ to.old ++ ((codes "POINT " ++ decimal number) ++ 10 ∷ [])) }
-{
-    let line = format!(in alloc; "POINT {number}\n")?;
-    to.extend(line.as_bytes())
-}
-
 // Appends a point: the line with its number, and a line for each value that is not 0.
 fn print_point(
     alloc: Global,
@@ -79,7 +71,8 @@ fn print_point(
     ensures { OnOk result (to.new ≡ to.old ++ ended_lines ((codes "POINT " ++ decimal number)
         ∷ written.column_lines model.now letter.X point.now)) }
 {
-    print_number(alloc, number, to)?;
+    push_numbered(alloc, b"POINT ", number, to)?;
+    to.push(b'\n')?;
     print_parts(alloc, model, point, to)
 }
 

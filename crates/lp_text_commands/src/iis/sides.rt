@@ -9,18 +9,16 @@ use lp_iis::{Side, Sides};
 use lp_model::Model;
 use std::alloc::AllocError;
 
-// The word for a row, or for a column.
-fn kind_word(is_row: bool) -> &'static [u8]
-    ensures { result.now ≡ iis.kind_word is_row }
+// The words for a side: of a row or of a column, and upper or lower.
+fn words_of(side: Side) -> &'static [u8]
+    ensures { result.now ≡ iis.kind_word side.row ++ iis.end_word side.upper }
 {
-    if is_row { b"ROW " } else { b"COLUMN " }
-}
-
-// The word for an upper limit, or for a lower one.
-fn end_word(is_upper: bool) -> &'static [u8]
-    ensures { result.now ≡ iis.end_word is_upper }
-{
-    if is_upper { b"UPPER " } else { b"LOWER " }
+    match (side.row, side.upper) {
+        (true, true) => b"ROW UPPER ",
+        (true, false) => b"ROW LOWER ",
+        (false, true) => b"COLUMN UPPER ",
+        (false, false) => b"COLUMN LOWER ",
+    }
 }
 
 // The name of the row or column whose side this is.
@@ -41,8 +39,7 @@ fn print_side(model: &Model, side: Side, to: &mut Bytes) -> Result<(), AllocErro
     requires { IsSide model.now side }
     ensures { OnOk result (to.new ≡ to.old ++ (iis.side_line model.now side ++ 10 ∷ [])) }
 {
-    to.extend(kind_word(side.row))?;
-    to.extend(end_word(side.upper))?;
+    to.extend(words_of(side))?;
     to.extend(name_of(model, side))?;
     to.push(b'\n')
 }

@@ -1,5 +1,5 @@
 // The command `range all`: it solves the model, and writes what that ended with and the range of each of its numbers.
-ghost use Rattle.std.specs.Prelude.{◌≡◌, ◌≤◌, ◌<◌, ◌++◌, List, OnOk, Ok, codes, refl};
+ghost use Rattle.std.specs.Prelude.{◌≡◌, ◌≤◌, ◌<◌, ◌++◌, List, OnOk, Ok, refl};
 ghost use Rattle.spec_model.specs.Kept.{IsUsualModel};
 ghost use Rattle.spec_pivot.specs.declared.status.Status.{Status as exact_status};
 ghost use Rattle.spec_simplex.specs.Form.{Form as exact_form};
@@ -12,6 +12,7 @@ use crate::command::Command;
 use crate::range::lines::print_range;
 use crate::range::ranging::{Ranged, range_of, solve_ranging};
 use crate::solve::print_answer;
+use crate::words::print_named;
 use lp_base::Bytes;
 use lp_model::Model;
 use lp_range::Ranging;
@@ -125,13 +126,4 @@ fn print_words(model: &Model, moved: Moved, at: u32, to: &mut Bytes) -> Result<(
         Moved::Cost => print_named(b"cost ", model.col(at).name.as_slice(), to),
         Moved::RightSide => print_named(b"rhs ", model.row(at).name.as_slice(), to),
     }
-}
-
-// Writes the word and the name with which the line of a number begins, and a space.
-fn print_named(word: &[u8], name: &[u8], to: &mut Bytes) -> Result<(), AllocError>
-    ensures { OnOk result (to.new ≡ to.old ++ (word.now ++ name.now ++ codes " ")) }
-{
-    to.extend(word)?;
-    to.extend(name)?;
-    to.push(b' ')
 }

@@ -1,24 +1,23 @@
 // What is said of a text of which a number is ranged, and which number that is.
-ghost use Rattle.std.specs.Prelude.{◌≡◌, List, ℕ, OnOk, IfOk, IsErrOf, Option, Ok};
+ghost use Rattle.std.specs.Prelude.{◌≡◌, OnOk, IfOk, IsErrOf, Ok};
 ghost use Rattle.lp_base.specs.Causes.{Rose};
-ghost use Rattle.spec_text.specs.declared.line.Line.{Line as exact_line};
 ghost use Rattle.spec_model.specs.Kept.{IsUsual};
 ghost use Rattle.spec_commands.specs.RangeOut.{PlaceOut, RangeOut, place_code, range_code, place_by};
-ghost use Rattle.spec_server.specs.TextSaid.{TextSaid as exact_said};
+ghost use Rattle.spec_server.specs.TextSaid.{text_said};
 ghost use Rattle.spec_server.specs.Streams.{streams};
-ghost use Rattle.lp_line.specs.Stages.{TextSays};
 ghost use Rattle.lp_text_commands.specs.Prints.{Prints};
-ghost use Rattle.lp_text_commands.specs.Hearing.{Agrees, SaysSo};
+ghost use Rattle.lp_text_commands.specs.Hearing.{SaysSo};
 
-use crate::command::{Command, print};
+use crate::command::perform;
 use crate::exit_status::ExitStatus;
-use crate::hearing::{Output, hear_input, send_printed};
+use crate::hearing::{Output, hear_input, send_output};
 use crate::range::RangeAt;
 use crate::range::named::{place_of, print_unknown};
 use lp_base::{Bytes, Sink, Source};
 use lp_line::{Halt, Refusal, Reply, TextSaid};
 use lp_model::Model;
 use lp_mps::read::Reader;
+use spec_mps::Style;
 use spec_program::Moved;
 use std::alloc::{AllocError, Global};
 
@@ -69,9 +68,7 @@ fn print_model(
     match place_of(model, moved, name) {
         Some(at) => {
             let command = RangeAt { moved, at };
-            let outcome = command.run(alloc, model)?;
-            print(alloc, &command, model, outcome, to)?;
-            Ok(ExitStatus::DONE)
+            perform(alloc, &command, model, to)
         }
         None => {
             print_unknown(alloc, name, to)?;
@@ -84,21 +81,17 @@ fn print_model(
 /// of the number of the column or row with this name; or that the text has a fault, or nothing this name.
 pub(crate) fn say_range<S: Source, K: Sink>(
     alloc: Global,
-    text: Reader,
+    style: Style,
     moved: Moved,
     name: &[u8],
     src: &mut S,
     out: &mut K,
 ) -> Result<ExitStatus, Halt>
-    requires { text.lines ≡ 0 }
-    ensures output { (said : List (exact_line (List ℕ)) → Option exact_said) → Agrees (TextSays text) said →
-        SaysSo said (RangeOut moved name.now) (range_code moved name.now)
+    ensures output { SaysSo (text_said style) (RangeOut moved name.now) (range_code moved name.now)
         (streams (S.left src.old) (S.left src.new) (K.taken out.old) (K.taken out.new)) result }
     ensures read { IsErrOf result Halt.Read → Rose (S.read_faults src.old) (S.read_faults src.new) }
     ensures write { IsErrOf result Halt.Write → Rose (K.write_faults out.old) (K.write_faults out.new) }
 {
-    let said = hear_input(alloc, text, src)?;
-    let mut written = Bytes::new(alloc);
-    let printed = RangeAsked { said, moved, name }.print(alloc, &mut written);
-    send_printed(printed, written, out)
+    let said = hear_input(alloc, Reader::new(alloc, style), src)?;
+    send_output(alloc, RangeAsked { said, moved, name }, out)
 }

@@ -31,19 +31,23 @@ fn print_line(alloc: Global, range: Range, to: &mut Bytes) -> Result<(), AllocEr
     ensures { OnOk result (to.new ≡ to.old ++ ranges.range_line range) }
 {
     let Range { ends, slope } = range;
-    to.extend(b"RANGE ")?;
-    print_end(alloc, ends.low, to)?;
-    to.extend(b" ")?;
-    print_end(alloc, ends.high, to)?;
+    print_end(alloc, b"RANGE ", ends.low, to)?;
+    print_end(alloc, b" ", ends.high, to)?;
     to.extend(b" SLOPE ")?;
     write(alloc, slope, to)?;
     to.extend(b"\n")
 }
 
-// Appends an end of a range, or `NONE` where the range has no end on that side.
-fn print_end(alloc: Global, end: Option<Frac>, to: &mut Bytes) -> Result<(), AllocError>
-    ensures { OnOk result (to.new ≡ to.old ++ ranges.end_text end) }
+// Appends the words before an end of a range, and the end, or `NONE` where the range has no end on that side.
+fn print_end(
+    alloc: Global,
+    words: &[u8],
+    end: Option<Frac>,
+    to: &mut Bytes,
+) -> Result<(), AllocError>
+    ensures { OnOk result (to.new ≡ to.old ++ (words.now ++ ranges.end_text end)) }
 {
+    to.extend(words)?;
     match end {
         Some(end) => write(alloc, end, to),
         None => to.extend(b"NONE"),

@@ -7,7 +7,7 @@ ghost use Rattle.spec_server.specs.WideLines as wide;
 ghost use Rattle.spec_commands.specs.SolveOut.{solve_code};
 ghost use Rattle.spec_commands.specs.SolveWideOut.{SolveWideOut};
 
-use crate::command::{Command, print};
+use crate::command::{Command, perform};
 use crate::exit_status::ExitStatus;
 use crate::hearing::Output;
 use lp_base::Bytes;
@@ -63,11 +63,9 @@ impl Output for LargeSaid {
     fn print(self, alloc: Global, to: &mut Bytes) -> Result<ExitStatus, AllocError> {
         match self {
             Ok(model) => {
-                let outcome = SolveWide.run(alloc, &model)?;
-                let printed = print(alloc, &SolveWide, &model, outcome, to);
+                let status = perform(alloc, &SolveWide, &model, to);
                 drop(model);
-                printed?;
-                Ok(ExitStatus::DONE)
+                status
             }
             Err(fault) => Reply::Refused(Refusal::Misspelled(fault)).print(alloc, to),
         }

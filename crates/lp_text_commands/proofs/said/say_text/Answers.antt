@@ -4,35 +4,29 @@ use Rattle.spec_model.specs.Kept.{IsUsualModel}
 use Rattle.spec_server.specs.TextSaid.{text_said}
 use Rattle.spec_commands.specs.SolveOut.{solve_code}
 use Rattle.lp_text_commands.specs.Said.{TextOut}
-use Rattle.lp_text_commands.proofs.Saying.{says_nothing, says, writes_sent}
-use Rattle.lp_text_commands.proofs.SpelledKept.{heard_kept, may_take, start_agrees}
+use Rattle.lp_text_commands.proofs.Saying.{says_nothing, says, text_agrees}
+use Rattle.lp_text_commands.proofs.SpelledKept.{heard_kept, may_take}
 use Rattle.lp_text_commands.proofs.said.say_text.Goals as goal
 
-pub print-printed-requires : goal.print-printed-requires
-print-printed-requires g c =
-    may_take IsUsualModel (g.C.Command.takes c.args.command) c.in_ok-said.said c.requires.takes
-    (heard_kept c.args.text.style (g.S.Source.left c.args.src.now) (g.S.Source.left c.hear_input.new.src)
-    c.in_ok-said.said
-    (c.in_ok-said.ensures.output (text_said c.args.text.style)
-    (start_agrees c.args.text c.requires.state c.requires.lines)))
+pub send_output-requires : goal.send_output-requires
+send_output-requires g c =
+    may_take IsUsualModel (g.C.Command.takes c.args.command) c.in_ok-said.said c.requires
+    (heard_kept c.args.style (g.S.Source.left c.args.src.now) (g.S.Source.left c.hear_input.new.src) c.in_ok-said.said
+    (c.in_ok-said.ensures.output (text_said c.args.style) (text_agrees c.args.style c.new.result c.new.ensures)))
 
 pub returns-in_err-said-clause-output : goal.returns-in_err-said-clause-output
 returns-in_err-said-clause-output g c =
     let p = err_from_is_err_and c.from_residual.result c.from_residual.ensures.1 in
-    says_nothing (text_said c.args.text.style) (TextOut (g.C.Command.may_write c.args.command)) solve_code
+    says_nothing (text_said c.args.style) (TextOut (g.C.Command.may_write c.args.command)) solve_code
     (g.S.Source.left c.args.src.now) (g.S.Source.left c.hear_input.new.src) (g.K.Sink.taken c.args.out.now)
     c.in_err-said.field-0.0
-    (c.in_err-said.ensures.output (text_said c.args.text.style)
-    (start_agrees c.args.text c.requires.state c.requires.lines)) c.from_residual.result p.0 p.1 p.2
+    (c.in_err-said.ensures.output (text_said c.args.style) (text_agrees c.args.style c.new.result c.new.ensures))
+    c.from_residual.result p.0 p.1 p.2
 
 pub returns-clause-output : goal.returns-clause-output
 returns-clause-output g c =
-    says (text_said c.args.text.style) (TextOut (g.C.Command.may_write c.args.command)) solve_code
+    says (text_said c.args.style) (TextOut (g.C.Command.may_write c.args.command)) solve_code
     (g.S.Source.left c.args.src.now) (g.S.Source.left c.hear_input.new.src) (g.K.Sink.taken c.args.out.now)
     c.in_ok-said.said
-    (c.in_ok-said.ensures.output (text_said c.args.text.style)
-    (start_agrees c.args.text c.requires.state c.requires.lines)) _ c.send_printed.result
-    (writes_sent (TextOut (g.C.Command.may_write c.args.command) c.in_ok-said.said) (solve_code c.in_ok-said.said)
-    c.new-written.result c.print-printed.new.to c.new-written.ensures (g.K.Sink.taken c.args.out.now) _
-    c.print-printed.result c.print-printed.ensures.output c.print-printed.ensures.status _
-    c.send_printed.ensures.output)
+    (c.in_ok-said.ensures.output (text_said c.args.style) (text_agrees c.args.style c.new.result c.new.ensures)) _
+    c.send_output.result c.send_output.ensures.output

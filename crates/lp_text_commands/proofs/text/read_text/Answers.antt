@@ -4,11 +4,11 @@ use Rattle.lp_text_commands.proofs.text.read_text.Goals as goal
 
 pub returns-in-Solve-clause-output : goal.returns-in-Solve-clause-output
 returns-in-Solve-clause-output g c =
-    solve_reads c.args.style c.new.result c.new.ensures c.args.command _ _ c.in-Solve.is c.say_text.ensures.output
+    solve_reads c.args.style c.args.command _ _ c.in-Solve.is c.say_text.ensures.output
 
 pub returns-in-SolveWide-clause-output : goal.returns-in-SolveWide-clause-output
 returns-in-SolveWide-clause-output g c =
-    wide_solve_reads c.args.style c.new-in-SolveWide.result c.new-in-SolveWide.ensures c.args.command c.in-SolveWide.is
+    wide_solve_reads c.args.style c.new.result c.new.ensures c.args.command c.in-SolveWide.is
     _ _ c.say.ensures.output
 
 pub returns-in-Check-clause-output : goal.returns-in-Check-clause-output
@@ -31,21 +31,20 @@ returns-in-BasisWide-clause-output g c =
 
 pub returns-in-Presolve-clause-output : goal.returns-in-Presolve-clause-output
 returns-in-Presolve-clause-output g c =
-    presolve_reads c.args.style c.new-in-Presolve.result c.new-in-Presolve.ensures c.args.command _ _ c.in-Presolve.is
+    presolve_reads c.args.style c.args.command _ _ c.in-Presolve.is
     c.say_text-in-Presolve.ensures.output
 
 pub returns-in-Iis-clause-output : goal.returns-in-Iis-clause-output
 returns-in-Iis-clause-output g c =
-    iis_reads c.args.style c.new-in-Iis.result c.new-in-Iis.ensures c.args.command _ _ c.in-Iis.is
+    iis_reads c.args.style c.args.command _ _ c.in-Iis.is
     c.say_text-in-Iis.ensures.output
 
 pub returns-in-Range-clause-output : goal.returns-in-Range-clause-output
 returns-in-Range-clause-output g c =
-    range_reads c.args.style c.new-in-Range.result c.new-in-Range.ensures c.args.command c.in-Range.moved
-    c.in-Range.name
-    c.in-Range.is _ _ c.say_range.ensures.output
+    range_reads c.args.style c.args.command c.in-Range.moved c.in-Range.name c.in-Range.is _ _
+    c.say_range.ensures.output
 
 pub returns-in-RangeAll-clause-output : goal.returns-in-RangeAll-clause-output
 returns-in-RangeAll-clause-output g c =
-    ranges_reads c.args.style c.new-in-RangeAll.result c.new-in-RangeAll.ensures c.args.command _ _ c.in-RangeAll.is
+    ranges_reads c.args.style c.args.command _ _ c.in-RangeAll.is
     c.say_text-in-RangeAll.ensures.output

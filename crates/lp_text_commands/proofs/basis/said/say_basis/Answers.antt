@@ -3,13 +3,13 @@ use Rattle.std.proofs.lemmas.Result.{err_from_is_err_and}
 use Rattle.spec_model.specs.Kept.{IsModelWithin}
 use Rattle.spec_commands.specs.BasisOut.{Handed, basis_code, basis_fault_line, basis_said}
 use Rattle.lp_text_commands.specs.Said.{SaidOut}
-use Rattle.lp_text_commands.proofs.Saying.{says_nothing, says, basis_agrees, writes_sent}
+use Rattle.lp_text_commands.proofs.Saying.{says_nothing, says, basis_agrees}
 use Rattle.lp_text_commands.proofs.SpelledKept.{may_take}
 use Rattle.lp_text_commands.proofs.BasisKept.{heard_within}
 use Rattle.lp_text_commands.proofs.basis.said.say_basis.Goals as goal
 
-pub print-printed-requires : goal.print-printed-requires
-print-printed-requires g c =
+pub send_output-requires : goal.send_output-requires
+send_output-requires g c =
     may_take (λ (handed : Handed). IsModelWithin c.args.limits handed.model) (g.C.Command.takes c.args.command)
     c.in_ok-said.said c.requires.takes
     (heard_within c.args.limits c.args.style (g.S.Source.left c.args.src.now)
@@ -32,8 +32,5 @@ returns-clause-output g c =
     basis_code (g.S.Source.left c.args.src.now) (g.S.Source.left c.hear_input.new.src) (g.K.Sink.taken c.args.out.now)
     c.in_ok-said.said
     (c.in_ok-said.ensures.output (basis_said c.args.limits c.args.style)
-    (basis_agrees c.args.limits c.args.style c.new-text.result c.new-text.ensures)) _ c.send_printed.result
-    (writes_sent (SaidOut (g.C.Command.may_write c.args.command) basis_fault_line c.in_ok-said.said) (basis_code c.in_ok-said.said)
-    c.new-written.result c.print-printed.new.to c.new-written.ensures (g.K.Sink.taken c.args.out.now) _
-    c.print-printed.result c.print-printed.ensures.output c.print-printed.ensures.status _
-    c.send_printed.ensures.output)
+    (basis_agrees c.args.limits c.args.style c.new-text.result c.new-text.ensures)) _ c.send_output.result
+    c.send_output.ensures.output
