@@ -1,5 +1,6 @@
 -- Cards of a basis file that are written in turn.
 --
+-- `pair_line`: three words, each with a blank before it, and a line feed are the line of a card with two names.
 -- `joined`: a text to which some cards and then others were added has all of them added.
 -- `one_more`: adding the card of the item at place k to those of the first k items gives those of the first k + 1.
 -- `one_pair`: adding the card of the pair at place k of two lists to the cards of the pairs before it gives those of
@@ -7,7 +8,7 @@
 -- `all_pairs`: where one of the two lists has no item left, the cards of all their pairs are added.
 -- `all_cards`: the cards of the pairs and then of the columns at their upper bounds are all cards of the basis.
 use Rattle.std.proofs.Common.{◌≡◌, ℕ, ◌+◌, ◌<◌, ◌≤◌, List, [], ◌∷◌, ◌++◌, length, take, map, get_or, sym, ap, ◌∙◌}
-use Rattle.std.proofs.Common.{append_assoc, ap₂, arith}
+use Rattle.std.proofs.Common.{append-nil, append_assoc, ap₂, arith}
 use Rattle.std.specs.Prelude.{min}
 use Rattle.std.proofs.lemmas.List.{take_all, map-append}
 use Rattle.std.proofs.lemmas.Simd.{map-map}
@@ -16,12 +17,29 @@ use Rattle.spec_model.specs.Model.{Model}
 use Rattle.spec_pivot.specs.declared.status.Status.{Status}
 use Rattle.spec_simplex.specs.Form.{Form}
 use Rattle.spec_bas.specs.Written.{basic_columns, other_rows, upper_columns, written_card, pair_card, upper_card}
-use Rattle.spec_bas.specs.Written.{cards_of}
+use Rattle.spec_bas.specs.Written.{cards_of, pair_fields}
 use Rattle.std.specs.List.{zip}
 use Rattle.std.proofs.lemmas.Grind.{flat_map-append}
 use Rattle.std.proofs.lemmas.List.{take_more}
 use Rattle.spec_mps.specs.declared.style.Style.TheVariants.{Free}
-use Rattle.spec_mps.specs.Written.{WrittenCard, WrittenCards, cards_text, line_text}
+use Rattle.spec_mps.specs.Written.{WrittenCard, WrittenCards, Data, cards_text, line_text}
+
+-- a word with a blank before it, after the beginning of a line
+word_on : (first line word now next : List ℕ) → now ≡ first ++ line → next ≡ now ++ 32 ∷ word →
+    next ≡ first ++ ((line ++ 32 ∷ []) ++ word)
+word_on first line word now next is_now is_next =
+    is_next ∙ ap (λ text. text ++ 32 ∷ word) is_now ∙ append_assoc first line (32 ∷ word)
+    ∙ ap (λ text. first ++ text) (sym (append_assoc line (32 ∷ []) word))
+
+-- the line of a card with two names, piece by piece
+pub pair_line : (kind column row a b c d e : List ℕ) → b ≡ a ++ 32 ∷ kind → c ≡ b ++ 32 ∷ column →
+    d ≡ c ++ 32 ∷ row → e ≡ d ++ 10 ∷ [] → e ≡ a ++ cards_text Free (Data (pair_fields kind column row) ∷ [])
+pair_line kind column row a b c d e is_b is_c is_d is_e =
+    let line : List ℕ = (((32 ∷ kind) ++ 32 ∷ []) ++ column) ++ 32 ∷ [] in
+    is_e
+    ∙ ap (λ text. text ++ 10 ∷ [])
+    (word_on a (((32 ∷ kind) ++ 32 ∷ []) ++ column) row c d (word_on a (32 ∷ kind) column b c is_b is_c) is_d)
+    ∙ append_assoc a (line ++ row) (10 ∷ []) ∙ ap (λ text. a ++ text) (sym (append-nil ((line ++ row) ++ 10 ∷ [])))
 
 -- the text of two lists of cards is the text of the first and then the text of the second
 text-append : (cs ds : WrittenCards) → cards_text Free (cs ++ ds) ≡ cards_text Free cs ++ cards_text Free ds

@@ -215,8 +215,7 @@ fn push_cards(
     let rows = other_rows(alloc, form, basis)?;
     push_pairs(model, form, basis, &basic, &rows, to)?;
     let upper = columns(alloc, form, basis, Listed::AtUpper)?;
-    push_uppers(model, &upper, to)?;
-    Ok(())
+    push_uppers(model, &upper, to)
 }
 
 /// The file of a basis: `NAME`, pairs of a basic column and a row that is not, columns at their upper bounds, `ENDATA`.

@@ -1,4 +1,5 @@
 use Rattle.std.proofs.Common.{◌<◌, All, sym, subst, ◌∙◌, arith}
+use Rattle.std.proofs.lemmas.Result.{on_ok_weaker}
 use Rattle.spec_model.specs.Model.{width, height}
 use Rattle.lp_bas.proofs.ChosenNumbers.{chosen_inside}
 use Rattle.lp_bas.proofs.Added.{all_cards}
@@ -21,8 +22,10 @@ push_uppers-requires c =
 
 pub returns : goal.returns
 returns c =
-    all_cards c.args.model.now c.args.form.now c.args.basis.now c.deref.result.now c.deref-2.result.now
+    on_ok_weaker c.push_uppers.result
+    (λ pushed. all_cards c.args.model.now c.args.form.now c.args.basis.now c.deref.result.now c.deref-2.result.now
     c.deref-3.result.now
     c.args.to.now c.push_pairs.new.to c.push_uppers.new.to (c.deref.ensures.value ∙ c.in_ok-basic.ensures)
     (c.deref-2.ensures.value ∙ c.in_ok-rows.ensures) (c.deref-3.ensures.value ∙ c.in_ok-upper.ensures)
-    c.in_ok-push_pairs.ensures c.in_ok-push_uppers.ensures
+    c.in_ok-push_pairs.ensures pushed)
+    c.push_uppers.ensures
