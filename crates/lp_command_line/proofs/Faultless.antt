@@ -2,8 +2,10 @@
 --
 -- `all_fault`: where the first word behind `range` is `all`, the fault is that of the options behind the word.
 -- `one_fault`: where the first word behind `range` is not `all`, the fault is that of the words for one number.
+-- `no-word`: where there are no words, that is the fault.
+-- `by-word`: the fault of words is the one that the command of their first word finds behind it.
 -- `no-told_fault`: where the fault found is the definition's, there is none exactly if the words are a command line.
-use Rattle.std.proofs.Common.{◌≡◌, ℕ, Bool, true, false, ◌&&◌, not, cond, List, [], ◌∷◌, Option, Some, None}
+use Rattle.std.proofs.Common.{◌≡◌, ◌<◌, ℕ, Bool, true, false, ◌&&◌, not, cond, List, [], ◌∷◌, length, map, Option, Some, None}
 use Rattle.std.proofs.Common.{arith, refl, sym, ap, ◌∙◌}
 use Rattle.std.specs.Prelude.{codes, option_map, option_and_then, is_some, is_none}
 use Rattle.std.specs.Option.{option_or}
@@ -24,7 +26,7 @@ use Rattle.lp_command_line.specs.Words.{value_in, workers_in, links_in, places_i
 use Rattle.lp_command_line.specs.declared.fault.Plain.{Plain}
 use Rattle.lp_command_line.specs.declared.fault.Plain.TheVariants.{Address, Number, Name, Seed, Rows, Columns}
 use Rattle.lp_command_line.specs.declared.fault.WordFault.{WordFault}
-use Rattle.lp_command_line.specs.declared.fault.WordFault.TheVariants.{NoOption, Twice, NotValue}
+use Rattle.lp_command_line.specs.declared.fault.WordFault.TheVariants.{NoWord, NoOption, Twice, NotValue}
 use Rattle.lp_command_line.specs.WordFaults.{Fault, told, lone_fault, behind_option, option_fault, value_fault, plain_fault, workers_fault}
 use Rattle.lp_command_line.specs.WordFaults.{links_fault}
 use Rattle.lp_command_line.specs.WordFaults.{places_fault, form_fault, run_fault, text_fault, wide_fault, generate_fault}
@@ -351,6 +353,17 @@ unfolding word_fault
 by-command word words found is =
     ap (fault_by word words) (look_up-map fault_of word command_words)
     ∙ ap (λ found. fault_by word words (option_map fault_of found)) is
+
+-- where there is no word, that is the fault
+pub no-word : {X : Type 0} (f : X → Word) (words : List X) → length words < 1 → word_fault (map f words) ≡ Some NoWord
+unfolding word_fault
+no-word f [] few = refl
+no-word f (x ∷ words) few = absurd (omega (arith, few))
+
+-- where the command of the first word is found, or none is, the fault of the words is that of it and the words behind it
+pub by-word : (words behind : List Word) (word : Word) (found : Option Command) → words ≡ word ∷ behind →
+    look_up word command_words ≡ found → word_fault words ≡ fault_by word behind (option_map fault_of found)
+by-word words behind word found cut is = ap word_fault cut ∙ by-command word behind found is
 
 -- words have no fault exactly where they are a command line
 no-word_fault : (words : List Word) → is_none (word_fault words) ≡ is_some (command_line_of words)

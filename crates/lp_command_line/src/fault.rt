@@ -1,4 +1,7 @@
 // Why words are no command line.
+ghost use Rattle.std.specs.Prelude.{◌≡◌};
+
+use std::alloc::AllocError;
 
 /// A word that a command wants at its place.
 #[derive(Clone, Copy)]
@@ -14,7 +17,7 @@ pub enum Plain {
 }
 
 /// Why words are no command line, and which word is at fault. `W` is what a word is told as.
-#[derive(Clone, Copy)]
+#[derive(Copy)]
 pub enum WordFault<W> {
     /// There is no word.
     NoWord,
@@ -32,4 +35,13 @@ pub enum WordFault<W> {
     NoValue(W),
     /// The value is none that this option may have.
     NotValue(W, W),
+}
+
+impl<W: Copy> Clone for WordFault<W> {
+    ghost is_clone = { λ x y. y ≡ x };
+
+    // A copy of the fault.
+    fn clone(&self) -> Result<WordFault<W>, AllocError> {
+        Ok(*self)
+    }
 }

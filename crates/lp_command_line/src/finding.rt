@@ -197,7 +197,6 @@ fn serve_fault(words: &[String]) -> Option<WordFault<&[u8]>>
 }
 
 // The first fault of the words, that of their command included; none if they are a command line.
-#[tactic(auto, unfolding(crate::specs::WordFaults::word_fault))]
 fn first_fault(words: &[String]) -> Option<WordFault<&[u8]>>
     ensures { told result ≡ faults.word_fault (map string_bytes words.now) }
 {

@@ -27,7 +27,7 @@ pub(crate) enum Command {
     Serve,
 }
 
-pub(crate) const COMMANDS: [(&[u8], Command); 9] = [
+pub(crate) static COMMANDS: [(&[u8], Command); 9] = [
     (b"run", Command::Run),
     (
         b"solve",
@@ -58,10 +58,10 @@ pub(crate) const COMMANDS: [(&[u8], Command); 9] = [
 ];
 
 // The numbers of which there is a range.
-const MOVED: [(&[u8], Moved); 2] = [(b"cost", Moved::Cost), (b"rhs", Moved::RightSide)];
+static MOVED: [(&[u8], Moved); 2] = [(b"cost", Moved::Cost), (b"rhs", Moved::RightSide)];
 
 // The switch that asks for numbers of any width.
-pub(crate) const WIDE: [&str; 1] = ["--wide"];
+pub(crate) static WIDE: [&str; 1] = ["--wide"];
 
 // The command line of `run` with these words behind it; none if one of them is wrong.
 fn run_line(words: &[String]) -> Option<CommandLine<&[u8]>>

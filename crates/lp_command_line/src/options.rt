@@ -10,7 +10,7 @@ use lp_base::{are_same, look_up};
 use lp_line::number_to;
 use spec_mps::Style;
 
-const FORMS: [(&[u8], Style); 2] = [(b"free", Style::Free), (b"fixed", Style::Fixed)];
+static FORMS: [(&[u8], Style); 2] = [(b"free", Style::Free), (b"fixed", Style::Fixed)];
 
 // How many workers there are, unless it is said.
 const USUAL_WORKERS: u32 = 1;
