@@ -1,8 +1,4 @@
 // Certificates with numbers of 127 bits.
-ghost use Rattle.std.specs.Prelude.{◌≡◌};
-ghost use Rattle.spec_exact.specs.Fraction.{0ℚ, eq_ℚ};
-ghost use Rattle.spec_certificate.specs.NarrowText as narrow_text;
-
 use crate::number::Number;
 use lp_base::Bytes;
 use lp_frac::{Frac, is_zero, zero};
@@ -21,8 +17,12 @@ impl Number for Frac {
     ghost writing = { narrow_writing };
 
     // The number of 127 bits that the text is, if it is one.
+    #[tactic(auto, using(crate::proofs::ReadNumbers::narrow_ok, crate::proofs::ReadNumbers::narrow_err))]
     fn read(_: Global, text: &[u8]) -> Result<Option<Frac>, AllocError> {
-        Ok(number_of(text))
+        match lp_numtext::read(text) {
+            Ok(v) => Ok(Some(v)),
+            Err(_) => Ok(None),
+        }
     }
 
     // The number 0.
@@ -37,29 +37,11 @@ impl Number for Frac {
 
     // Whether the number is 0, so that no line is written for it.
     fn is_none(&self) -> bool {
-        is_none(*self)
+        is_zero(*self)
     }
 
     // Adds the text of the number.
     fn write(&self, alloc: Global, text: &mut Bytes) -> Result<(), AllocError> {
         lp_numtext::write(alloc, *self, text)
     }
-}
-
-// The number that the text is, or none where it is no number of 127 bits.
-#[tactic(auto, using(crate::proofs::ReadNumbers::narrow_ok, crate::proofs::ReadNumbers::narrow_err))]
-fn number_of(text: &[u8]) -> Option<Frac>
-    ensures { result ≡ narrow_text.narrow text.now }
-{
-    match lp_numtext::read(text) {
-        Ok(v) => Some(v),
-        Err(_) => None,
-    }
-}
-
-// Whether the number is 0, so that no line is written for it.
-fn is_none(v: Frac) -> bool
-    ensures { result ≡ eq_ℚ v 0ℚ }
-{
-    is_zero(v)
 }
