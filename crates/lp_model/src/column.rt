@@ -17,7 +17,12 @@ use std::alloc::Global;
 fn is_given(name: &[u8], pairs: &[(Name, Frac)]) -> bool
     ensures { result ≡ edited.is_given name.now pairs.now }
 {
-    pairs.iter().any(|p| are_same(p.0.as_slice(), name))
+    for pair in pairs {
+        if are_same(pair.0.as_slice(), name) {
+            return true;
+        }
+    }
+    false
 }
 
 /// The entries of a new column by its pairs, in the order of their rows; a pair with 0 gives none. A name that no row

@@ -19,7 +19,12 @@ fn is_printable(b: u8) -> bool
 fn are_printable(text: &[u8]) -> bool
     ensures { result ≡ list_all kept.is_printable text.now }
 {
-    text.iter().all(|b| is_printable(*b))
+    for b in text {
+        if !is_printable(*b) {
+            return false;
+        }
+    }
+    true
 }
 
 /// Whether this may be the name of a column: 1 to 64 printable ASCII characters without spaces.
