@@ -114,18 +114,7 @@ fn push_how(alloc: Global, how: How, to: &mut Bytes) -> Result<(), AllocError>
     }
 }
 
-// Adds a space and what came of publishing a basis to a text.
-fn push_put(alloc: Global, put: Put, to: &mut Bytes) -> Result<(), AllocError>
-    ensures { OnOk result (to.new ≡ to.old ++ (codes " " ++ output.put_text put)) }
-{
-    match put {
-        Put::Published(place) => push_numbered(alloc, b" PUBLISHED ", u64::from(place), to),
-        Put::Raced(claimed) => push_numbered(alloc, b" RACED ", u64::from(claimed), to),
-        Put::Full(claimed) => push_numbered(alloc, b" FULL ", u64::from(claimed), to),
-    }
-}
-
-// Adds a space and what was published of an answer to a text.
+// Adds a space and what was published of an answer, or what came of trying to, to a text.
 fn push_publication(
     alloc: Global,
     publication: Publication,
@@ -136,7 +125,15 @@ fn push_publication(
     match publication {
         Publication::Nothing => to.extend(b" NONE"),
         Publication::Same => to.extend(b" SAME"),
-        Publication::Tried(put) => push_put(alloc, put, to),
+        Publication::Tried(Put::Published(place)) => {
+            push_numbered(alloc, b" PUBLISHED ", u64::from(place), to)
+        }
+        Publication::Tried(Put::Raced(claimed)) => {
+            push_numbered(alloc, b" RACED ", u64::from(claimed), to)
+        }
+        Publication::Tried(Put::Full(claimed)) => {
+            push_numbered(alloc, b" FULL ", u64::from(claimed), to)
+        }
     }
 }
 

@@ -2,7 +2,6 @@
 ghost use Rattle.std.specs.Prelude.{◌<◌, ◌-◌, ◌^◌, [], ◌∷◌, Some, IfOk};
 ghost use Rattle.spec_text.specs.declared.line.Line.TheVariants as line;
 ghost use Rattle.lp_line.specs.Body.{BodySays, PassesTo, count_in};
-ghost use Rattle.lp_line.specs.declared.body.Body.TheVariants as body;
 
 use crate::hearing::{Stage, Step};
 use lp_base::Line;
@@ -16,17 +15,6 @@ pub enum Body<T, R> {
     Read(R),
 }
 
-// Reads a line of a body of which nothing has been said yet.
-fn read_on<T: Stage>(alloc: Global, stage: T, line: &Line) -> Result<Body<T, T::Said>, AllocError>
-    requires { T.count stage < 2 ^ 32 - 1 }
-    ensures { IfOk result (PassesTo T.says T.count (body.Reading stage) line.now) }
-{
-    match stage.advance(alloc, line)? {
-        Step::On(next) => Ok(Body::Reading(next)),
-        Step::Says(said) => Ok(Body::Read(said)),
-    }
-}
-
 /// Reads the next line of a body. Lines behind the one that settled its result, a fault or not, change nothing.
 pub(crate) fn pass<T: Stage>(
     alloc: Global,
@@ -37,19 +25,11 @@ pub(crate) fn pass<T: Stage>(
     ensures { IfOk result (PassesTo T.says T.count body line.now) }
 {
     match body {
-        Body::Reading(stage) => read_on(alloc, stage, line),
+        Body::Reading(stage) => match stage.advance(alloc, line)? {
+            Step::On(next) => Ok(Body::Reading(next)),
+            Step::Says(said) => Ok(Body::Read(said)),
+        },
         Body::Read(said) => Ok(Body::Read(said)),
-    }
-}
-
-// The result of an input that ends in this state of the reading.
-fn said_at_end<T: Stage>(alloc: Global, stage: T) -> Result<T::Said, AllocError>
-    requires { T.count stage < 2 ^ 32 - 1 }
-    ensures { IfOk result (λ said. T.says stage (line.End ∷ []) (Some said)) }
-{
-    match stage.advance(alloc, &Line::End)? {
-        Step::On(_) => unreachable!(),
-        Step::Says(said) => Ok(said),
     }
 }
 
@@ -59,7 +39,10 @@ pub(crate) fn close<T: Stage>(alloc: Global, body: Body<T, T::Said>) -> Result<T
     ensures { IfOk result (λ said. BodySays T.says body (line.End ∷ []) (Some said)) }
 {
     match body {
-        Body::Reading(stage) => said_at_end(alloc, stage),
+        Body::Reading(stage) => match stage.advance(alloc, &Line::End)? {
+            Step::On(_) => unreachable!(),
+            Step::Says(said) => Ok(said),
+        },
         Body::Read(said) => Ok(said),
     }
 }

@@ -99,24 +99,8 @@ fn addressed(
     Ok(Some(Asked { session, ask }))
 }
 
-// The command behind the number of its session. A word that is no such number makes it a bad one of session 0.
-fn addressed_to(
-    alloc: Global,
-    number: &[u8],
-    words: &[Bytes],
-) -> Result<Option<Asked<Command>>, AllocError>
-    ensures { IfOk result (λ found. found ≡ Some (lines.addressed_to (commands.session_of number.now) words.now)) }
-{
-    match session_of(number) {
-        Some(session) => addressed(alloc, session, words),
-        None => Ok(Some(Asked {
-            session: 0,
-            ask: Command::Bad(LineFault::Word),
-        })),
-    }
-}
-
-// The command that the words are, by whether their lines name sessions. No words are none.
+// The command that the words are, by whether their lines name sessions. No words are none. A first word that should be
+// the number of a session, but is no such number, makes it a bad command of session 0.
 fn addressed_by(
     alloc: Global,
     addressing: Addressing,
@@ -128,7 +112,13 @@ fn addressed_by(
         return Ok(None);
     };
     match addressing {
-        Addressing::Numbered => addressed_to(alloc, first.as_slice(), behind),
+        Addressing::Numbered => match session_of(first.as_slice()) {
+            Some(session) => addressed(alloc, session, behind),
+            None => Ok(Some(Asked {
+                session: 0,
+                ask: Command::Bad(LineFault::Word),
+            })),
+        },
         Addressing::Alone => addressed(alloc, 0, words),
     }
 }

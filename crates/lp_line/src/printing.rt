@@ -15,7 +15,13 @@ use std::alloc::{AllocError, Global};
 fn count_of_lines(text: &[u8]) -> usize
     ensures { result ≡ output.count_of_lines text.now }
 {
-    text.iter().filter(|byte| **byte == b'\n').count()
+    let mut count = 0;
+    for byte in text {
+        if *byte == b'\n' {
+            count += 1;
+        }
+    }
+    count
 }
 
 // Adds the first line of a reply to a text, without its session and its line feed.

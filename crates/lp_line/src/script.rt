@@ -59,7 +59,13 @@ impl Stage for ScriptStage {
                 drop(self);
                 Ok(Step::Says(end))
             }
-            Line::Text(_) | Line::Long(_) | Line::Over => line_in(alloc, self, line),
+            Line::Text(_) | Line::Long(_) | Line::Over => match self {
+                ScriptStage::Between(addressing) => line_between(alloc, addressing, line),
+                ScriptStage::Text { session, body } => line_of_text(alloc, session, body, line),
+                ScriptStage::Certificate { session, body } => {
+                    line_of_certificate(alloc, session, body, line)
+                }
+            },
         }
     }
 }
@@ -71,21 +77,6 @@ fn end_of(stage: &ScriptStage) -> Result<Option<Asked>, Halt>
     match stage {
         ScriptStage::Between(_) => Ok(None),
         ScriptStage::Text { .. } | ScriptStage::Certificate { .. } => Err(Halt::Cut),
-    }
-}
-
-// Reads a line of a script, which is not the input's end.
-fn line_in(alloc: Global, stage: ScriptStage, line: &Line) -> Result<ScriptStep, AllocError>
-    requires small { lines_in stage < 2 ^ 32 - 1 }
-    requires given { line.now ≢ End }
-    ensures { IfOk result (Leads ScriptSays lines_in stage line.now) }
-{
-    match stage {
-        ScriptStage::Between(addressing) => line_between(alloc, addressing, line),
-        ScriptStage::Text { session, body } => line_of_text(alloc, session, body, line),
-        ScriptStage::Certificate { session, body } => {
-            line_of_certificate(alloc, session, body, line)
-        }
     }
 }
 

@@ -1,7 +1,6 @@
 // The lines that an exact solve is answered with.
 ghost use Rattle.std.specs.Prelude.{◌≡◌, ◌++◌, IfOk, OnOk};
 ghost use Rattle.spec_server.specs.WideLines as wide;
-ghost use Rattle.spec_model.specs.Model.{Model as model};
 ghost use Rattle.spec_check.specs.Certificate.{IsFor};
 ghost use Rattle.spec_solve.specs.declared.exact.ExactEnd.TheVariants as ends;
 ghost use Rattle.lp_line.specs.ExactEnds.{HasFit};
@@ -47,24 +46,19 @@ fn answer_lines(alloc: Global, model: &Model, answer: &ExactAnswer) -> Result<Te
     Ok(lines)
 }
 
-// The one line, `OPEN`, which says that an exact solve found no answer.
-fn open_lines(alloc: Global) -> Result<Texts, AllocError>
-    ensures { (m : model) → IfOk result (λ lines. lines ≡ wide.wide_lines m ends.Open) }
-{
-    let mut line = Bytes::new(alloc);
-    line.extend(b"OPEN")?;
-    let mut lines = Texts::new(alloc);
-    lines.push(line)?;
-    Ok(lines)
-}
-
-/// The lines of an exact solve: its answer and its certificate, or that it found no answer.
+/// The lines of an exact solve: its answer and its certificate, or the one line `OPEN` where it found no answer.
 pub fn wide_lines(alloc: Global, model: &Model, end: &ExactEnd) -> Result<Texts, AllocError>
     requires { HasFit model.now end.now }
     ensures { IfOk result (λ lines. lines ≡ wide.wide_lines model.now end.now) }
 {
     match end {
         ExactEnd::Answered(answer) => answer_lines(alloc, model, answer),
-        ExactEnd::Open => open_lines(alloc),
+        ExactEnd::Open => {
+            let mut line = Bytes::new(alloc);
+            line.extend(b"OPEN")?;
+            let mut lines = Texts::new(alloc);
+            lines.push(line)?;
+            Ok(lines)
+        }
     }
 }
