@@ -19,16 +19,19 @@ pub(crate) fn is_skipped(line: &[u8]) -> bool
 fn begins_with_star(line: &[u8]) -> bool
     ensures { result ≡ cards.begins_with_star line.now }
 {
-    line.first() == Some(&b'*')
+    match line {
+        [first, ..] => *first == b'*',
+        [] => false,
+    }
 }
 
 /// Whether the line begins with a blank, or is empty: then it is a data card, unless it is skipped.
 pub(crate) fn begins_with_blank(line: &[u8]) -> bool
     ensures { result ≡ cards.begins_with_blank line.now }
 {
-    match line.first() {
-        Some(b) => is_blank(*b),
-        None => true,
+    match line {
+        [first, ..] => is_blank(*first),
+        [] => true,
     }
 }
 
@@ -36,8 +39,8 @@ pub(crate) fn begins_with_blank(line: &[u8]) -> bool
 fn without_carriage_return(line: &[u8]) -> &[u8]
     ensures { result.now ≡ strip_carriage_return line.now }
 {
-    match line.split_last() {
-        Some((b'\r', rest)) => rest,
+    match line {
+        [rest @ .., b'\r'] => rest,
         _ => line,
     }
 }
@@ -46,5 +49,10 @@ fn without_carriage_return(line: &[u8]) -> &[u8]
 fn has_only_blanks(line: &[u8]) -> bool
     ensures { result ≡ list_all word.is_blank line.now }
 {
-    line.iter().all(|b| is_blank(*b))
+    for b in line {
+        if !is_blank(*b) {
+            return false;
+        }
+    }
+    true
 }

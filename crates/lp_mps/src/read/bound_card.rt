@@ -18,58 +18,28 @@ pub(crate) enum BoundCard {
     SetsBoth(Option<Frac>, Option<Frac>),
 }
 
-// The number, or plus or minus infinity, that the text of a bound says; or the code of its fault.
-#[tactic(auto, unfolding(spec_mps::specs::Bounds::bound_in))]
-fn bound_in(text: &[u8]) -> Result<BoundValue<Frac>, Code>
-    ensures { result ≡ bounds.bound_in text.now }
-{
-    Ok(read_bound(text)?)
-}
-
-// What a card of kind `UP` with this value does: it sets the upper bound, or takes it away for plus infinity. Minus
-// infinity is a fault.
-fn upper_card(value: BoundValue<Frac>) -> Result<BoundCard, Code>
-    ensures { bound_made result ≡ bounds.upper_card value }
-{
-    match value {
-        BoundValue::Finite(upper) => Ok(BoundCard::SetsUpper(Some(upper))),
-        BoundValue::PlusInf => Ok(BoundCard::SetsUpper(None)),
-        BoundValue::MinusInf => Err(Code::BoundKind),
-    }
-}
-
-// What a card of kind `LO` with this value does: it sets the lower bound, or takes it away for minus infinity. Plus
-// infinity is a fault.
-fn lower_card(value: BoundValue<Frac>) -> Result<BoundCard, Code>
-    ensures { bound_made result ≡ bounds.lower_card value }
-{
-    match value {
-        BoundValue::Finite(lower) => Ok(BoundCard::SetsLower(Some(lower))),
-        BoundValue::PlusInf => Err(Code::BoundKind),
-        BoundValue::MinusInf => Ok(BoundCard::SetsLower(None)),
-    }
-}
-
-// What a card of kind `FX` with this value does: it sets both bounds to the value. An infinity is a fault.
-fn both_card(value: BoundValue<Frac>) -> Result<BoundCard, Code>
-    ensures { bound_made result ≡ bounds.both_card value }
-{
-    match value {
-        BoundValue::Finite(v) => Ok(BoundCard::SetsBoth(Some(v), Some(v))),
-        BoundValue::PlusInf | BoundValue::MinusInf => Err(Code::BoundKind),
-    }
-}
-
 /// What a card of this kind does to its column's bounds. `text` is its value, which the kinds `FR`, `MI` and `PL` do
-/// not read. A value that the kind does not take is a fault.
-#[tactic(auto, unfolding(spec_mps::specs::Bounds::bound_card))]
+/// not read. `UP` sets the upper bound, or takes it away for plus infinity. `LO` sets the lower bound, or takes it away
+/// for minus infinity. `FX` sets both. Another infinity is a fault.
+#[tactic(auto, unfolding(spec_mps::specs::Bounds::bound_card, spec_mps::specs::Bounds::bound_in))]
 pub(crate) fn bound_card(kind: BoundKind, text: &[u8]) -> Result<BoundCard, Code>
     ensures { bound_made result ≡ bounds.bound_card kind text.now }
 {
     match kind {
-        BoundKind::Up => upper_card(bound_in(text)?),
-        BoundKind::Lo => lower_card(bound_in(text)?),
-        BoundKind::Fx => both_card(bound_in(text)?),
+        BoundKind::Up => match read_bound(text)? {
+            BoundValue::Finite(upper) => Ok(BoundCard::SetsUpper(Some(upper))),
+            BoundValue::PlusInf => Ok(BoundCard::SetsUpper(None)),
+            BoundValue::MinusInf => Err(Code::BoundKind),
+        },
+        BoundKind::Lo => match read_bound(text)? {
+            BoundValue::Finite(lower) => Ok(BoundCard::SetsLower(Some(lower))),
+            BoundValue::PlusInf => Err(Code::BoundKind),
+            BoundValue::MinusInf => Ok(BoundCard::SetsLower(None)),
+        },
+        BoundKind::Fx => match read_bound(text)? {
+            BoundValue::Finite(v) => Ok(BoundCard::SetsBoth(Some(v), Some(v))),
+            BoundValue::PlusInf | BoundValue::MinusInf => Err(Code::BoundKind),
+        },
         BoundKind::Fr => Ok(BoundCard::SetsBoth(None, None)),
         BoundKind::Mi => Ok(BoundCard::SetsLower(None)),
         BoundKind::Pl => Ok(BoundCard::SetsUpper(None)),

@@ -6,12 +6,12 @@ ghost use Rattle.spec_mps.specs.Fields.{texts_of};
 ghost use Rattle.spec_mps.specs.Bounds as bounds;
 ghost use Rattle.spec_mps.specs.Sides.{changed_at};
 ghost use Rattle.lp_mps.specs.Answer.{GivesState};
-ghost use Rattle.lp_mps.specs.BoundSeen.{bound_seen, texts_seen, texts_made};
+ghost use Rattle.lp_mps.specs.BoundSeen.{texts_seen, texts_made};
 ghost use Rattle.lp_mps.specs.BoundSeen as seen;
 ghost use Rattle.lp_mps.specs.Draft.{state_of};
 
 use crate::card::{Field, Fields};
-use crate::read::bound_card::{BoundCard, bound_card, sets_lower};
+use crate::read::bound_card::{bound_card, sets_lower};
 use crate::read::draft::Draft;
 use crate::read::fault::Fault;
 use crate::read::sets::is_used;
@@ -144,9 +144,9 @@ impl Draft {
         self.use_bound(alloc, kind, texts)
     }
 
-    // Sets the bounds of the column that the texts name, and makes their set the one in use. An unknown column, or a
-    // value that the kind does not take, is a fault.
-    #[tactic(auto, unfolding(spec_mps::specs::Bounds::use_bound))]
+    // Sets the bounds of the column that the texts name, notes whether that sets its lower one, and makes their set the
+    // one in use. An unknown column, or a value that the kind does not take, is a fault.
+    #[tactic(auto, unfolding(spec_mps::specs::Bounds::use_bound, spec_mps::specs::Bounds::with_bound))]
     fn use_bound(&mut self, alloc: Global, kind: BoundKind, texts: BoundTexts) -> Result<(), Fault>
         ensures { GivesState (bounds.use_bound (state_of self.old) kind (texts_seen texts.entry))
             (state_of self.new) result }
@@ -156,17 +156,9 @@ impl Draft {
         };
         let card = bound_card(kind, texts.value)?;
         self.use_set(alloc, texts.set)?;
-        self.put_bound(place, &card);
-        Ok(())
-    }
-
-    // Sets the bounds of the column at a place, and notes whether the card sets its lower bound.
-    #[tactic(auto, unfolding(spec_mps::specs::Bounds::with_bound))]
-    fn put_bound(&mut self, place: usize, card: &BoundCard)
-        ensures { state_of self.new ≡ bounds.with_bound (state_of self.old) place (bound_seen card.now) }
-    {
         let lowered = is_lowered(&self.lowered, place);
-        self.columns.bound_at(place, lowered, card);
-        lower_at(&mut self.lowered, place, sets_lower(card));
+        self.columns.bound_at(place, lowered, &card);
+        lower_at(&mut self.lowered, place, sets_lower(&card));
+        Ok(())
     }
 }

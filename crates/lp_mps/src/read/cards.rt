@@ -72,23 +72,9 @@ impl Draft {
         }
     }
 
-    // Reads the bytes of one line of a text, as a heading, a data card or a line to be skipped.
-    fn text_line(
-        &mut self,
-        alloc: Global,
-        limits: SizeLimits,
-        style: Style,
-        bytes: &[u8],
-    ) -> Result<Went, Fault>
-        ensures { Goes (steps.on_reading limits style (state_of self.old)
-            (steps.reading_of style (state_of self.old).part bytes.now)) (state_of self.new) result }
-    {
-        let card = read_card(alloc, style, self.part, bytes)?;
-        self.on_card(alloc, limits, style, &card)
-    }
-
-    /// Reads a line, and says whether the text goes on or is at its end. A line that is wrong or too long is a fault,
-    /// and so is the end of the input, or of what may be read of it, in place of a line.
+    /// Reads a line as a heading, a data card or a line to be skipped, and says whether the text goes on or is at its
+    /// end. A line that is wrong or too long is a fault, and so is the end of the input, or of what may be read of it, in
+    /// place of a line.
     #[tactic(auto, unfolding(spec_mps::specs::Steps::step))]
     pub(crate) fn step(
         &mut self,
@@ -100,7 +86,10 @@ impl Draft {
         ensures { Goes (steps.step limits style (state_of self.old) line.now) (state_of self.new) result }
     {
         match line {
-            Line::Text(bytes) => self.text_line(alloc, limits, style, bytes.as_slice()),
+            Line::Text(bytes) => {
+                let card = read_card(alloc, style, self.part, bytes.as_slice())?;
+                self.on_card(alloc, limits, style, &card)
+            }
             Line::Long(_) => Err(Fault::Code(Code::Limit)),
             Line::End | Line::Over => Err(Fault::Code(Code::Cut)),
         }

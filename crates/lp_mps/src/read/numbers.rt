@@ -2,7 +2,6 @@
 ghost use Rattle.std.specs.Prelude.{◌≡◌, OnOk};
 ghost use Rattle.spec_mps.specs.Fields.{texts_of};
 ghost use Rattle.spec_mps.specs.Reader as reader;
-ghost use Rattle.spec_mps.specs.Sides as side;
 ghost use Rattle.lp_mps.specs.Answer.{GivesState};
 ghost use Rattle.lp_mps.specs.Draft.{state_of};
 ghost use Rattle.lp_mps.specs.Numbers as numbers;
@@ -90,34 +89,17 @@ impl Draft {
     }
 
     // Gives a row or the objective this number: as an entry of the current column (or its cost), a right side or a
-    // range, which the objective does not get.
+    // range, which the objective does not get. The objective's right side is the negative of its offset.
     fn give(&mut self, what: Numbers, target: Target, value: Frac) -> Result<(), AllocError>
         ensures { OnOk result (state_of self.new ≡ numbers.with_by what (state_of self.old) target value) }
     {
-        match what {
-            Numbers::Entries => return self.columns.put_number(target, value),
-            Numbers::Sides => self.set_side(target, value),
-            Numbers::Ranges => self.set_range(target, value),
+        match (what, target) {
+            (Numbers::Entries, _) => return self.columns.put_number(target, value),
+            (Numbers::Sides, Target::Objective) => self.offset = neg(value),
+            (Numbers::Sides, Target::Row(row)) => self.rows.set_rhs(row, value),
+            (Numbers::Ranges, Target::Objective) => {}
+            (Numbers::Ranges, Target::Row(row)) => self.rows.set_range(row, value),
         }
         Ok(())
-    }
-
-    // Gives a row its right side. The objective's right side is the negative of its offset.
-    fn set_side(&mut self, target: Target, value: Frac)
-        ensures { state_of self.new ≡ side.with_side (state_of self.old) target value }
-    {
-        match target {
-            Target::Objective => self.offset = neg(value),
-            Target::Row(row) => self.rows.set_rhs(row, value),
-        }
-    }
-
-    // Gives a row its range. The objective gets none.
-    fn set_range(&mut self, target: Target, value: Frac)
-        ensures { state_of self.new ≡ numbers.with_range (state_of self.old) target value }
-    {
-        if let Target::Row(row) = target {
-            self.rows.set_range(row, value);
-        }
     }
 }

@@ -17,9 +17,9 @@ use spec_mps::{Code, Section, Style};
 use std::alloc::Global;
 
 impl Draft {
-    /// Reads a data card of ROWS: adds its row, or takes it as the objective. A wrong shape, an unknown kind, a name
-    /// that is bad or taken, or one row too many is a fault.
-    #[tactic(auto, unfolding(spec_mps::specs::Reader::rows_card, spec_mps::specs::Shapes::shaped))]
+    /// Reads a data card of ROWS: adds its row, or takes it as the objective if it is the first free one. A wrong shape,
+    /// an unknown kind, a name that is bad or taken, or one row too many is a fault.
+    #[tactic(auto, unfolding(spec_mps::specs::Reader::rows_card, spec_mps::specs::Reader::add_row, spec_mps::specs::Shapes::shaped))]
     pub(crate) fn rows_card(
         &mut self,
         alloc: Global,
@@ -35,21 +35,7 @@ impl Draft {
         let Some(kind) = row_type_of(fields.text_at(1)) else {
             return Err(Fault::Code(Code::RowType));
         };
-        self.add_row(alloc, limits, kind, fields.text_at(2))
-    }
-
-    // Adds a row of this kind and name; the first free row is the objective. A bad name, one that is taken, or one row
-    // too many is a fault.
-    #[tactic(auto, unfolding(spec_mps::specs::Reader::add_row))]
-    fn add_row(
-        &mut self,
-        alloc: Global,
-        limits: SizeLimits,
-        kind: Kind,
-        name: &[u8],
-    ) -> Result<(), Fault>
-        ensures { GivesState (reader.add_row limits (state_of self.old) kind name.now) (state_of self.new) result }
-    {
+        let name = fields.text_at(2);
         if !is_row_name(name) {
             return Err(Fault::Code(Code::Name));
         }

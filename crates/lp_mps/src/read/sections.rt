@@ -1,6 +1,5 @@
 // The cards that begin sections.
 ghost use Rattle.std.specs.Prelude.{◌≡◌, OnOk, None, Some};
-ghost use Rattle.spec_mps.specs.declared.section.Section.TheVariants as part;
 ghost use Rattle.spec_mps.specs.Steps as steps;
 ghost use Rattle.lp_mps.specs.Answer.{GivesState, Goes};
 ghost use Rattle.lp_mps.specs.Draft.{state_of};
@@ -73,19 +72,11 @@ impl Draft {
         if !may_follow(self.seen, part) || has_begun(self.seen, part) {
             return Err(Fault::Code(Code::SectionOrder));
         }
-        self.begin(alloc, part, fields.text_at(2))
-    }
-
-    // Begins a section, or says that the text ends, for ENDATA. `word` is the card's second word, empty where there is
-    // none.
-    fn begin(&mut self, alloc: Global, part: Section, word: &[u8]) -> Result<Went, Fault>
-        ensures { Goes (steps.begin (state_of self.old) part word.now) (state_of self.new) result }
-    {
         if let Section::End = part {
             return Ok(Went::ToEnd);
         }
         self.begin_part(part)?;
-        self.head(alloc, part, word)?;
+        self.head(alloc, part, fields.text_at(2))?;
         Ok(Went::On)
     }
 
@@ -101,14 +92,21 @@ impl Draft {
         Ok(())
     }
 
-    // Reads the second word of a section's card, which is empty where there is none: the model's name, or the sense.
-    // COLUMNS without an objective is a fault.
+    // Reads the second word of a section's card, which is empty where there is none: the model's name, or the sense. A
+    // bad one is a fault, and so is COLUMNS without an objective.
     fn head(&mut self, alloc: Global, part: Section, word: &[u8]) -> Result<(), Fault>
         ensures { GivesState (steps.headed (state_of self.old) part word.now) (state_of self.new) result }
     {
         match part {
-            Section::Name => self.take_name(alloc, word),
-            Section::Sense => self.sense_beside(word),
+            Section::Name => {
+                if !is_model_name(word) {
+                    return Err(Fault::Code(Code::Name));
+                }
+                set_name(&mut self.name, alloc, word)?;
+                Ok(())
+            }
+            Section::Sense if word.is_empty() => Ok(()),
+            Section::Sense => self.take_sense(word),
             Section::Columns => {
                 if self.objective.is_none() {
                     return Err(Fault::Code(Code::NoObjective));
@@ -121,16 +119,5 @@ impl Draft {
             | Section::Bounds
             | Section::End => Ok(()),
         }
-    }
-
-    // Stores the word as the model's name. A bad one is a fault.
-    fn take_name(&mut self, alloc: Global, word: &[u8]) -> Result<(), Fault>
-        ensures { GivesState (steps.headed (state_of self.old) part.Name word.now) (state_of self.new) result }
-    {
-        if !is_model_name(word) {
-            return Err(Fault::Code(Code::Name));
-        }
-        set_name(&mut self.name, alloc, word)?;
-        Ok(())
     }
 }

@@ -11,9 +11,9 @@ use crate::read::words::sense_of;
 use spec_mps::{Code, Section, Style};
 
 impl Draft {
-    // Stores the sense that the text says. Another text, or a second sense, is a fault.
+    /// Stores the sense that the text says. Another text, or a second sense, is a fault.
     #[tactic(auto, unfolding(spec_mps::specs::Steps::take_sense))]
-    fn take_sense(&mut self, text: &[u8]) -> Result<(), Fault>
+    pub(crate) fn take_sense(&mut self, text: &[u8]) -> Result<(), Fault>
         ensures { GivesState (steps.take_sense (state_of self.old) text.now) (state_of self.new) result }
     {
         let Some(sense) = sense_of(text) else {
@@ -24,17 +24,6 @@ impl Draft {
         }
         self.sense = Some(sense);
         Ok(())
-    }
-
-    /// Stores the sense that the word beside OBJSENSE says. An empty word changes nothing. A word that is no sense, or
-    /// a second sense, is a fault.
-    pub(crate) fn sense_beside(&mut self, word: &[u8]) -> Result<(), Fault>
-        ensures { GivesState (steps.sense_beside (state_of self.old) word.now) (state_of self.new) result }
-    {
-        if word.is_empty() {
-            return Ok(());
-        }
-        self.take_sense(word)
     }
 
     /// Reads a data card of OBJSENSE: stores the sense that it says. Another text, or a second sense, is a fault.

@@ -95,21 +95,15 @@ impl Writer {
         self.row_cards(model, to)
     }
 
-    // Adds the cards of all rows.
+    // Adds the cards of all rows, each with the row's kind and its name.
     fn row_cards(&self, model: &Model, to: &mut Bytes) -> Result<(), WriteStop>
         ensures { Adds self.now.style (map written.row_card model.now.rows) to.old to.new result }
     {
         for i in 0..model.rows() {
-            self.row_card(model.row(i), to)?;
+            let row = model.row(i);
+            self.type_card(kind_word(row.kind), row.name.as_slice(), to)?;
         }
         Ok(())
-    }
-
-    // Adds the card of a row: its kind and its name.
-    fn row_card(&self, row: &Row, to: &mut Bytes) -> Result<(), WriteStop>
-        ensures { Adds self.now.style (written.row_card row.now ∷ []) to.old to.new result }
-    {
-        self.type_card(kind_word(row.kind), row.name.as_slice(), to)
     }
 
     /// Adds `COLUMNS`: each column's cost and its entries.

@@ -14,16 +14,17 @@ loop-i-init c = nothing c.args.self.now.style c.args.to.now
 pub loop-i-preserved : goal.loop-i-preserved
 loop-i-preserved c =
     each_next c.args.self.now.style (λ r. row_card r ∷ []) c.args.model.now.rows c.loop-i.i no_row (omega arith) _ _ _
-    c.loop-i.invariant (rw c.row.ensures at c.in_ok-row_card.ensures)
+    c.loop-i.invariant
+    (rw (c.kind_word.ensures, c.as_slice.ensures, c.row-row.ensures) at c.in_ok-type_card.ensures)
 
-pub returns-in_err-row_card : goal.returns-in_err-row_card
-returns-in_err-row_card c =
+pub returns-in_err-type_card : goal.returns-in_err-type_card
+returns-in_err-type_card c =
     let p = err_from_is_err_and c.from_residual.result c.from_residual.ensures.1 in
-    let P : WrittenCards → Type 0 = λ cs. Names (wide_in c.args.self.now.style cs) c.in_err-row_card.field-0.0 in
+    let P : WrittenCards → Type 0 = λ cs. Names (wide_in c.args.self.now.style cs) c.in_err-type_card.field-0.0 in
     rw (p.1, p.2) (subst P (flat_map_single row_card c.args.model.now.rows)
     (each_stops c.args.self.now.style (λ r. row_card r ∷ []) c.args.model.now.rows c.loop-i.i no_row
-    (omega arith) _ _ c.in_err-row_card.field-0.0 c.loop-i.invariant
-    (rw c.row.ensures at c.in_err-row_card.ensures)))
+    (omega arith) _ _ c.in_err-type_card.field-0.0 c.loop-i.invariant
+    (rw (c.kind_word.ensures, c.as_slice.ensures, c.row-row.ensures) at c.in_err-type_card.ensures)))
 
 pub returns : goal.returns
 returns c =
