@@ -3,17 +3,14 @@
 -- `from_factors`: the order that begins with factors contains each engine.
 -- `from_tableaus`: the order that begins with tableaus contains each engine.
 -- `from_rows`: the order that begins with rows contains each engine.
-use Rattle.std.proofs.Common.{◌≡◌, ◌⊎◌, inl, inr, ℕ, ◌<◌, ◌+◌, List, [], ◌∷◌, arith, length, take, get_or, Option, Some, Ok, Result, All, Contains}
+use Rattle.std.proofs.Common.{◌≡◌, ◌⊎◌, inl, inr, ℕ, ◌<◌, ◌+◌, List, [], ◌∷◌, arith, length, take, get_or, Some, Ok, Result, All, Contains}
 use Rattle.std.proofs.Common.{refl, sym, ◌∙◌, subst}
 use Rattle.std.proofs.lemmas.List.Elements.{All-contains, All-more, All-weaker}
 use Rattle.spec_exact.specs.Fraction.{ℚ}
 use Rattle.spec_exact.specs.declared.past.Past.{Past}
 use Rattle.spec_exact.specs.Narrow.{number_limit}
 use Rattle.spec_model.specs.Model.{Model}
-use Rattle.spec_check.specs.declared.certificate.Certificate.{Certificate}
-use Rattle.spec_check.specs.declared.certificate.Known.{Known}
 use Rattle.spec_check.specs.declared.solve_end.SolveEnd.TheVariants as outcome
-use Rattle.spec_pivot.specs.declared.status.Status.{Status}
 use Rattle.spec_simplex.specs.declared.ends.FormFault.{FormFault}
 use Rattle.spec_simplex.specs.Form.{Form, form_of}
 use Rattle.spec_runs.specs.Cold.{ExactSolveEnd}
@@ -55,13 +52,6 @@ from_rows Rows = first Rows Tableaus Factors
 
 module _ (budget : ℕ) (m : Model) (f : Form) where
   -- ---- one engine
-  -- where an engine ended with an answer, the cold solve may end with it
-  pub run_may : (engine : Engine) (end : ExactSolveEnd) (known : Known ℚ) (c : Certificate (List ℚ))
-      (basis : Option (List Status)) (pivots : ℕ) → end ≡ outcome.Ended known c basis pivots →
-      IsRunOf budget m f engine end → MayEndCold (Some number_limit) budget m end
-  run_may engine end known c basis pivots is run =
-      subst (MayEndCold (Some number_limit) budget m) (sym is) (subst (IsRunOf budget m f engine) is run)
-
   -- where an engine ended without an answer, what is asked of an engine that gave up holds
   pub run_gave_up : (engine : Engine) (end : ExactSolveEnd) →
       ((p : Past ℚ) × (end ≡ outcome.Past p)) ⊎ (end ≡ outcome.Spent) → IsRunOf budget m f engine end →

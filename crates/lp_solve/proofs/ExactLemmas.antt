@@ -3,7 +3,7 @@
 -- `clash_answers`: bounds that clash are an exact answer: the model is infeasible.
 -- `refusal_gives_up`: where an operation is refused while the form is made, an exact solve may give up.
 -- `formless_exactly`: an exact solve of a model without a form may end as without a starting basis.
-use Rattle.std.proofs.Common.{◌≡◌, ℕ, List, Option, Some, None, Result, Ok, Err, IfSome, IfOk, option_map, refl, sym, subst, ◌∙◌}
+use Rattle.std.proofs.Common.{◌≡◌, ℕ, List, Option, Some, None, Result, Ok, Err, IfSome, IfOk, option_map, refl, sym, subst}
 use Rattle.spec_exact.specs.Fraction.{ℚ}
 use Rattle.spec_exact.specs.Narrow.{number_limit}
 use Rattle.spec_exact.specs.declared.past.Past.{Past}
@@ -23,31 +23,16 @@ use Rattle.spec_runs.specs.Accepted.{IsAccepted}
 use Rattle.spec_runs.specs.declared.ends.Route.TheVariants as route
 use Rattle.spec_runs.proofs.ColdSolves.{clash_accepted}
 use Rattle.spec_solve.specs.Answers.{MayAnswer, IsSolved}
-use Rattle.spec_solve.specs.OfBasis.{IsOfBasis}
 use Rattle.spec_solve.specs.Order.{GivesUp}
 use Rattle.spec_solve.specs.declared.exact.Origin.TheVariants.{Cold}
-use Rattle.spec_solve.specs.Exact.{IsShown, IsBasisOfAnswer, IsExactAnswer, IsExactEnd, MayGiveUp, RationalEnd}
+use Rattle.spec_solve.specs.Exact.{IsShown, IsExactAnswer, IsExactEnd, MayGiveUp, RationalEnd}
 use Rattle.spec_solve.proofs.ExactAnswers.{narrow_shown}
 use Rattle.spec_solve.proofs.Left.{solved_left}
-use Rattle.spec_simplex.specs.declared.ends.FormFault.{FormFault}
 use Rattle.spec_simplex.specs.declared.ends.FormFault.TheVariants as fault
 use Rattle.lp_solve.specs.Formless.{HasNoForm}
 use Rattle.lp_solve.proofs.WarmRuns.{no_starting}
 use Rattle.lp_solve.proofs.Allowed.{cold_is_solved}
 use Rattle.lp_solve.proofs.Solved.{formless}
-
--- a model has one form
-same_form : (m : Model) (f g : Form) → form_of (Some number_limit) m ≡ Ok f → form_of (Some number_limit) m ≡ Ok g → f ≡ g
-same_form m f g h k = let z : ◌≡◌ {A = Result Form (FormFault ℚ)} (Ok f) (Ok g) = sym h ∙ k in cc
-
-module _ (m : Model) (f : Form) (formed : form_of (Some number_limit) m ≡ Ok f) where
-  -- a basis of the model's form at which the certificate stands is one that an answer with this certificate may have
-  pub of_answer : (cert : Certificate (List ℚ)) (basis : List Status) → IsBasisOf f basis → IsOfBasis m basis cert →
-      IsBasisOfAnswer m cert basis
-  of_answer cert basis fits stands = record {
-    stands = stands;
-    of_form = λ g is. subst (λ g. IsBasisOf g basis) (same_form m f g formed is) fits;
-  }
 
 -- ---- a solve at 127 bits
 

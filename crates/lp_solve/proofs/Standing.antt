@@ -1,14 +1,15 @@
 -- Columns and rows that are at a basis by their reduced costs and sums are so by the definition.
 --
--- `ends_if`: a run that gives a limit gives the value that is at this limit.
+-- `stands_if`: where a test whether a number stands at a limit is true, the limit is the number.
+-- `true_if`: where a test that is true gives P, and P gives Q, it gives Q.
 -- `column_stands_by`: a column that fits the basis by its reduced cost, as computed, fits it by the definition.
 -- `row_stands_by`: a row that fits the basis by its sum, as computed, fits it by the definition.
-use Rattle.std.proofs.Common.{◌≡◌, ℕ, List, Option, Some, None, Ok, true, sym, ap, ◌∙◌}
+use Rattle.std.proofs.Common.{◌≡◌, ℕ, List, Option, Some, None, Result, Ok, Err, Bool, IfOk, IsTrue, sym, ap, ◌∙◌}
 use Rattle.spec_exact.specs.Fraction.{ℚ, ◌+ℚ◌, ◌*ℚ◌, neg_ℚ}
 use Rattle.spec_exact.proofs.Sums.{neg-sum_below}
 use Rattle.spec_model.specs.Model.{Model, height, coefficient, cost, part, activity}
 use Rattle.spec_check.specs.Checks.{signed, reduced}
-use Rattle.spec_check.specs.Run.{Run, less_product, reduced_run, stands_at}
+use Rattle.spec_check.specs.Run.{less_product, reduced_run, stands_at}
 use Rattle.spec_check.proofs.StepsComplete.{from_all, less_all, activity_all}
 use Rattle.spec_check.proofs.StepsSound.{stands_from}
 use Rattle.spec_pivot.specs.declared.status.Status.{Status}
@@ -16,9 +17,16 @@ use Rattle.spec_pivot.specs.declared.status.Status.TheVariants.{Basic, AtLower, 
 use Rattle.spec_solve.specs.OfBasis.{ColumnStands, RowStands}
 use Rattle.lp_solve.specs.Standing.{ColumnStandsWith, RowStandsWith}
 
--- of a limit that a run ends with
-pub ends_if : (r : Run (Option ℚ)) (l : Option ℚ) (v : ℚ) → r ≡ Ok l → stands_at l v ≡ true → r ≡ Ok (Some v)
-ends_if r l v e h = e ∙ ap Ok (stands_from l v h)
+-- ---- tests that may end without memory
+pub stands_if : {E P : Type 0} (r : Result Bool E) (l : Option ℚ) (v : ℚ) → IfOk r (λ b. b ≡ stands_at l v) →
+    (l ≡ Some v → P) → IfOk r (λ b. IsTrue b → P)
+stands_if (Ok b) l v h p = λ e. p (stands_from l v (sym h ∙ e))
+stands_if (Err why) l v h p = tt
+
+pub true_if : {E P Q : Type 0} (r : Result Bool E) → IfOk r (λ b. IsTrue b → P) → (P → Q) →
+    IfOk r (λ b. IsTrue b → Q)
+true_if (Ok b) h q = λ e. q (h e)
+true_if (Err why) h q = tt
 
 -- the run of a reduced cost ends with it
 reduced_all : (m : Model) (y : List ℚ) (j : ℕ) → reduced_run None m y j ≡ Ok (reduced m y j)

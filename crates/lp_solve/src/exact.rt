@@ -14,8 +14,8 @@ ghost use Rattle.lp_solve.specs.Formless.{HasNoForm};
 
 use crate::cold::End;
 use crate::shown::{
-    at_basis, at_float_end, at_float_end_beside, at_float_end_from, at_near_end, basis_of_answer,
-    origin_of, over_rows, over_rows_from,
+    at_basis, at_float_end, at_float_end_from, at_near_end, basis_of_answer, origin_of, over_rows,
+    over_rows_from,
 };
 use crate::solving::solve_formed;
 use crate::widened::{widened_certificate, widened_known};
@@ -42,50 +42,29 @@ fn is_usual(model: &Model) -> bool
     model.rows() <= USUAL_LIMITS.rows && model.cols() <= USUAL_LIMITS.columns
 }
 
-// The exact answer of a solve at 127 bits, whose certificate was checked there, without a basis.
+// The exact answer of a solve at 127 bits, whose certificate was checked there: with its final basis, if the
+// certificate's numbers are those of that basis; else without one.
 fn settled(
     alloc: Global,
+    model: &Model,
+    form: &Form,
     known: Known,
     certificate: Certificate,
+    left: Option<Basis>,
     origin: Origin,
 ) -> Result<ExactAnswer, AllocError>
-    ensures { (m : model) → IsShown m known certificate → IfOk result (IsExactAnswer m) }
+    requires formed { form_of (Some number_limit) model.now ≡ Ok form.now }
+    requires shown { IsShown model.now known certificate }
+    requires based { IfSome left (λ basis. IsBasisOf form.now basis) }
+    ensures { IfOk result (IsExactAnswer model.now) }
 {
     let known = widened_known(alloc, known)?;
     let wide = widened_certificate(alloc, &certificate)?;
     drop(certificate);
+    let basis = basis_of_answer(alloc, model, form, &wide, left)?;
     Ok(ExactAnswer {
         known,
         certificate: wide,
-        basis: None,
-        origin,
-    })
-}
-
-// An exact answer with its final basis, if the certificate's numbers are those of that basis; else without one.
-fn settled_at(
-    alloc: Global,
-    model: &Model,
-    form: &Form,
-    answer: ExactAnswer,
-    left: Option<Basis>,
-) -> Result<ExactAnswer, AllocError>
-    requires formed { form_of (Some number_limit) model.now ≡ Ok form.now }
-    requires shown { IsExactAnswer model.now answer }
-    requires based { IfSome left (λ basis. IsBasisOf form.now basis) }
-    ensures { IfOk result (IsExactAnswer model.now) }
-{
-    let basis = basis_of_answer(alloc, model, form, &answer.certificate, left)?;
-    let ExactAnswer {
-        known,
-        certificate,
-        basis: none,
-        origin,
-    } = answer;
-    drop(none);
-    Ok(ExactAnswer {
-        known,
-        certificate,
         basis,
         origin,
     })
@@ -121,7 +100,7 @@ fn beyond(
     if let Some(answer) = over_rows_from(alloc, model, form, budget, basis)? {
         return Ok(Some(answer));
     }
-    if let Some(answer) = at_float_end_beside(alloc, model)? {
+    if let Some(answer) = at_float_end_from(alloc, model, None)? {
         return Ok(Some(answer));
     }
     over_rows(alloc, model, form, budget, Route::Fell(Fall::Past))
@@ -137,7 +116,7 @@ fn beside(
     ensures { IfOk result (λ o. IfSome o (IsExactAnswer model.now)) }
 {
     match starting {
-        Some(_) => at_float_end_beside(alloc, model),
+        Some(_) => at_float_end_from(alloc, model, None),
         None => Ok(None),
     }
 }
@@ -162,8 +141,8 @@ fn by_runs(
             basis,
             pivots,
         } => {
-            let answer = settled(alloc, answer, certificate, origin_of(route, pivots))?;
-            let answer = settled_at(alloc, model, form, answer, basis)?;
+            let origin = origin_of(route, pivots);
+            let answer = settled(alloc, model, form, answer, certificate, basis, origin)?;
             Ok(ExactEnd::Answered(answer))
         }
         End::Past(_) => Ok(or_open(beyond(alloc, model, budget, form, starting)?)),
@@ -244,10 +223,10 @@ fn large_from(
     if let Some(answer) = at_basis(alloc, model, basis)? {
         return Ok(Some(answer));
     }
-    if let Some(answer) = at_float_end_from(alloc, model, basis)? {
+    if let Some(answer) = at_float_end_from(alloc, model, Some(basis.as_slice()))? {
         return Ok(Some(answer));
     }
-    at_float_end_beside(alloc, model)
+    at_float_end_from(alloc, model, None)
 }
 
 // Solves a model past the usual limits exactly, from a starting basis if there is one.

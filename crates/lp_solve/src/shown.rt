@@ -210,8 +210,7 @@ fn lifted_at(
     let Some(end) = end else {
         return Ok(None);
     };
-    let lifted = answer_of_basis(alloc, model, &end.statuses, end.witness, most_steps(model))?;
-    Ok(lifted)
+    answer_of_basis(alloc, model, &end.statuses, end.witness, most_steps(model))
 }
 
 // Whether a column entered a basis, or went to another bound.
@@ -274,36 +273,23 @@ pub(crate) fn at_near_end(
     }
 }
 
-/// The answer that a run in floats from this basis leads to; none if it leads to none.
+/// The answer that a run in floats leads to: from these statuses of a starting basis, or from the start, where there is
+/// a starting basis that the run does not use. None if it leads to none.
 pub(crate) fn at_float_end_from(
     alloc: Global,
     model: &Model,
-    basis: &Basis,
+    statuses: Option<&[Status]>,
 ) -> Result<Option<ExactAnswer>, AllocError>
     ensures { IfOk result (λ o. IfSome o (IsExactAnswer model.now)) }
 {
-    let end = float_end(alloc, model, Some(basis.as_slice()))?;
+    let end = float_end(alloc, model, statuses)?;
     match lifted_at(alloc, model, end)? {
         Some(lifted) => {
-            let origin = Origin::Warm(u64::from(lifted.steps));
-            at_lifted(alloc, model, lifted, origin)
-        }
-        None => Ok(None),
-    }
-}
-
-/// The answer that a run in floats from the start leads to, where there is a starting basis that it does not use. None
-/// if it leads to none.
-pub(crate) fn at_float_end_beside(
-    alloc: Global,
-    model: &Model,
-) -> Result<Option<ExactAnswer>, AllocError>
-    ensures { IfOk result (λ o. IfSome o (IsExactAnswer model.now)) }
-{
-    let end = float_end(alloc, model, None)?;
-    match lifted_at(alloc, model, end)? {
-        Some(lifted) => {
-            let origin = Origin::Fell(u64::from(lifted.steps));
+            let steps = u64::from(lifted.steps);
+            let origin = match statuses {
+                Some(_) => Origin::Warm(steps),
+                None => Origin::Fell(steps),
+            };
             at_lifted(alloc, model, lifted, origin)
         }
         None => Ok(None),

@@ -42,13 +42,11 @@ fn column_stands(
         Status::Basic => Ok(reduced.is_zero()),
         Status::AtLower => {
             let lower = limit_of(alloc, model.col(j).lower)?;
-            let stands = stands_at(alloc, lower, part(x, j))?;
-            Ok(stands)
+            stands_at(alloc, lower, part(x, j))
         }
         Status::AtUpper => {
             let upper = limit_of(alloc, model.col(j).upper)?;
-            let stands = stands_at(alloc, upper, part(x, j))?;
-            Ok(stands)
+            stands_at(alloc, upper, part(x, j))
         }
         Status::AtZero => Ok(part(x, j).is_zero()),
     }
@@ -94,13 +92,11 @@ fn row_stands(
         Status::Basic => Ok(part(y, i).is_zero()),
         Status::AtLower => {
             let lower = lower_limit(alloc, model.row(i))?;
-            let stands = stands_at(alloc, lower, sum)?;
-            Ok(stands)
+            stands_at(alloc, lower, sum)
         }
         Status::AtUpper => {
             let upper = upper_limit(alloc, model.row(i))?;
-            let stands = stands_at(alloc, upper, sum)?;
-            Ok(stands)
+            stands_at(alloc, upper, sum)
         }
         Status::AtZero => Ok(sum.is_zero()),
     }
@@ -148,6 +144,5 @@ pub(crate) fn stand_at_basis(
         return Ok(false);
     }
     let point = evaluated(alloc, model, x)?;
-    let stand = rows_stand(alloc, model, basis, y, &point.sums)?;
-    Ok(stand)
+    rows_stand(alloc, model, basis, y, &point.sums)
 }

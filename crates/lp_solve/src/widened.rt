@@ -3,20 +3,21 @@ ghost use Rattle.std.specs.Prelude.{◌≡◌, IfOk};
 
 use lp_check::Certificate;
 use lp_check::wide::{self, Ratios};
-use lp_frac::Frac;
+use lp_frac::{Frac, Fracs};
 use lp_ratio::Ratio;
 use spec_check::Known;
 use std::alloc::{AllocError, Global};
 
-// A list of numbers of 127 bits as fractions of any width.
-fn widened(alloc: Global, list: &[Frac]) -> Result<Vec<Ratio>, AllocError>
-    ensures { IfOk result (λ x. x.items ≡ list.now) }
+// A list of numbers of 127 bits as one of fractions of any width.
+fn widened(alloc: Global, list: &Fracs) -> Result<Ratios, AllocError>
+    ensures { IfOk result (λ x. x ≡ list.now) }
 {
+    let numbers = list.as_slice();
     let mut wide: Vec<Ratio> = Vec::new(alloc);
-    for i in 0..list.len() {
-        wide.push(Ratio::new(alloc, list[i])?)?;
+    for i in 0..numbers.len() {
+        wide.push(Ratio::new(alloc, numbers[i])?)?;
     }
-    Ok(wide)
+    Ok(Ratios::from_vec(wide))
 }
 
 /// A certificate of numbers of 127 bits as one with numbers of any width.
@@ -27,21 +28,18 @@ pub(crate) fn widened_certificate(
     ensures { IfOk result (λ c. c ≡ certificate.now) }
 {
     match certificate {
-        Certificate::Optimal { x, y } => {
-            let x = Ratios::from_vec(widened(alloc, x.as_slice())?);
-            let y = Ratios::from_vec(widened(alloc, y.as_slice())?);
-            Ok(wide::Certificate::Optimal { x, y })
-        }
-        Certificate::Infeasible { y } => {
-            let y = Ratios::from_vec(widened(alloc, y.as_slice())?);
-            Ok(wide::Certificate::Infeasible { y })
-        }
+        Certificate::Optimal { x, y } => Ok(wide::Certificate::Optimal {
+            x: widened(alloc, x)?,
+            y: widened(alloc, y)?,
+        }),
+        Certificate::Infeasible { y } => Ok(wide::Certificate::Infeasible {
+            y: widened(alloc, y)?,
+        }),
         Certificate::Clash(column) => Ok(wide::Certificate::Clash(*column)),
-        Certificate::Unbounded { x, r } => {
-            let x = Ratios::from_vec(widened(alloc, x.as_slice())?);
-            let r = Ratios::from_vec(widened(alloc, r.as_slice())?);
-            Ok(wide::Certificate::Unbounded { x, r })
-        }
+        Certificate::Unbounded { x, r } => Ok(wide::Certificate::Unbounded {
+            x: widened(alloc, x)?,
+            r: widened(alloc, r)?,
+        }),
     }
 }
 

@@ -4,14 +4,13 @@ use Rattle.lp_solve.proofs.Allowed.{starting_fits}
 use Rattle.lp_solve.proofs.ExactLemmas.{ended_shown, end_based, gave_up}
 use Rattle.lp_solve.proofs.exact.by_runs.Goals as goal
 
-pub settled_at-requires-clause-shown : goal.settled_at-requires-clause-shown
-settled_at-requires-clause-shown c =
-    c.in_ok-answer-in-Ended.ensures c.args.model.now
-    (ended_shown c.args.model.now c.args.budget (option_map (λ basis. basis.now) c.args.starting) _
-    c.in_ok-end.ensures.solved _ _ _ _ c.in-Ended.is)
+pub settled-requires-clause-shown : goal.settled-requires-clause-shown
+settled-requires-clause-shown c =
+    ended_shown c.args.model.now c.args.budget (option_map (λ basis. basis.now) c.args.starting) _
+    c.in_ok-end.ensures.solved _ _ _ _ c.in-Ended.is
 
-pub settled_at-requires-clause-based : goal.settled_at-requires-clause-based
-settled_at-requires-clause-based c =
+pub settled-requires-clause-based : goal.settled-requires-clause-based
+settled-requires-clause-based c =
     end_based c.args.model.now c.args.budget (option_map (λ basis. basis.now) c.args.starting) _
     c.in_ok-end.ensures.solved c.args.form.now c.requires.formed
     (starting_fits (λ basis. basis.now) c.args.form.now c.args.starting c.requires.fits) _ _ _ _ c.in-Ended.is
