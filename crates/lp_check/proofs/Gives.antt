@@ -6,8 +6,6 @@
 -- `most_is`: `at_most` fails where comparing the number with the limit gives greater, and passes where it gives equal
 --   or less.
 -- `stands_is`: a number stands at a limit exactly where the comparison of the two says equal.
--- `plus_no_left`: adding a product whose left factor is 0 leaves the sum.
--- `plus_no_right`: adding a product whose right factor is 0 leaves the sum.
 -- `plus_gives`: adding the product of v and w to s ends with s + v w.
 -- `value_is`: adding f to the end of a run that ends with s ends with s + f.
 -- `passes`: a condition whose test is true passes.
@@ -48,7 +46,7 @@
 -- `allows_are`: testing given sums of the rows over a ray is testing the activities of the ray.
 -- `better_is`: the condition that the objective improves is the test of the ray's cost, signed for the sense.
 -- `worth_is`: the value of a point is its cost and the offset together.
-use Rattle.std.proofs.Common.{◌≡◌, ℕ, zero, suc, ◌<◌, List, Option, Some, None, Ok, Err, Bool, true, false, not, cond}
+use Rattle.std.proofs.Common.{◌≡◌, ℕ, zero, suc, ◌<◌, List, Option, Some, None, Result, Ok, Err, IfOk, Bool, true, false, not, cond}
 use Rattle.std.proofs.Common.{refl, sym, ap, ap₂, ◌∙◌, pos}
 use Rattle.std.specs.Prelude.{⊤, ok_or, int_lt, neg_ℤ, ℤ}
 use Rattle.std.proofs.Common.{arith}
@@ -63,8 +61,6 @@ use Rattle.spec_exact.specs.Fraction.{ℚ, 0ℚ, ◌+ℚ◌, ◌*ℚ◌, neg_ℚ
 use Rattle.spec_exact.specs.Limit.{add, order}
 use Rattle.spec_exact.specs.declared.past.Op.TheVariants.{Add}
 use Rattle.spec_exact.specs.Run.{◌>>=◌, refused_as}
-use Rattle.spec_exact.proofs.Field.{+ℚ_zero, *ℚ_zero}
-use Rattle.spec_exact.proofs.Ruleset.{zero-*ℚ}
 use Rattle.spec_exact.proofs.Compare.{order_equal}
 use Rattle.spec_exact.proofs.Same.{eq_if, eq_test}
 use Rattle.spec_model.specs.declared.parts.RowLimit.{RowLimit}
@@ -83,8 +79,10 @@ use Rattle.lp_check.specs.Sums as given
 use Rattle.lp_check.proofs.Scaled.{reduced_all}
 
 -- ---- limits
-pub taken_is : (o : RowLimit ℚ) (l : Option ℚ) → l ≡ limit_of o → refused_as stop.Past (limit_run None o) ≡ Ok l
-taken_is o l h = ap (refused_as stop.Past) (limit_all o) ∙ ap Ok (sym h)
+pub taken_is : {E : Type 0} (o p : RowLimit ℚ) (r : Result (Option ℚ) E) → o ≡ p → IfOk r (λ l. l ≡ limit_of o) →
+    IfOk r (λ l. refused_as stop.Past (limit_run None p) ≡ Ok l)
+taken_is o p (Ok l) e h = ap (refused_as stop.Past) (limit_all p) ∙ ap Ok (sym (h ∙ ap limit_of e))
+taken_is o p (Err why) e h = tt
 
 -- ---- tests
 pub least_is : (l : Option ℚ) (k v : ℚ) (o : Ordering) (t : Bool) → l ≡ Some k → o ≡ order v k → t ≡ is_lt o →
@@ -121,14 +119,6 @@ pub stands_is : (l : Option ℚ) (k v : ℚ) (o : Ordering) (t : Bool) → l ≡
 stands_is l k v o t e f g = g ∙ ap is_eq f ∙ equal_order k v ∙ ap (λ z. stands_at z v) (sym e)
 
 -- ---- products
-pub plus_no_left : (v w s : ℚ) → v ≡ 0ℚ → plus_product None v w s ≡ Ok s
-plus_no_left v w s e =
-    plus_all v w s ∙ ap Ok (ap (λ z. s +ℚ z *ℚ w) e ∙ ap (λ z. s +ℚ z) (zero-*ℚ w) ∙ +ℚ_zero s)
-
-pub plus_no_right : (v w s : ℚ) → w ≡ 0ℚ → plus_product None v w s ≡ Ok s
-plus_no_right v w s e =
-    plus_all v w s ∙ ap Ok (ap (λ z. s +ℚ v *ℚ z) e ∙ ap (λ z. s +ℚ z) (*ℚ_zero v) ∙ +ℚ_zero s)
-
 pub plus_gives : (v w s p r : ℚ) → p ≡ v *ℚ w → r ≡ s +ℚ p → plus_product None v w s ≡ Ok r
 plus_gives v w s p r e f = plus_all v w s ∙ ap Ok (sym (f ∙ ap (λ z. s +ℚ z) e))
 

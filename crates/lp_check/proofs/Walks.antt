@@ -1,24 +1,20 @@
--- Sums taken entry by entry over the columns of a model, and lists built number by number.
+-- Sums taken entry by entry over the columns of a model.
 --
 -- `inside_at`: the row of an entry of a column is below the number of rows.
 -- `column_step`: adding an entry's coefficient times x to its row's sum leaves each sum with its remaining entry as it
 --   was.
 -- `column_end`: when no entry is left, each row's sum has grown by its coefficient times x.
 -- `sums_more`: adding column j to the rows' sums over the first j columns gives those over j + 1.
--- `cost_more`: adding column j's cost times its number to the cost of the first j columns gives that of j + 1.
 -- `weigh_step`: adding an entry's coefficient times its multiplier leaves the sum with the remaining products as it
 --   was.
 -- `weigh_end`: when no entry is left, the sum of coefficients times multipliers is complete.
--- `pushed`: where a fact holds at each place of a list, it holds after a number for which it holds is pushed.
 -- `part_is`: a number read inside a list is the definition's `part` of the list there.
-use Rattle.std.proofs.Common.{◌≡◌, ◌≢◌, ℕ, zero, suc, ◌+◌, ◌<◌, ◌≤◌, List, [], ◌∷◌, ◌++◌, length, drop, get_or, set, All, cond, eqb}
+use Rattle.std.proofs.Common.{◌≡◌, ◌≢◌, ℕ, zero, suc, ◌+◌, ◌<◌, ◌≤◌, List, [], ◌∷◌, length, drop, get_or, set, All, cond, eqb}
 use Rattle.std.proofs.Common.{refl, sym, ap, ap₂, ◌∙◌, subst, arith, ⊎_elim, add-one, length-set, length-drop, get_or-drop}
 use Rattle.std.proofs.Common.{get_or-set_same, get_or-set_other}
 use Rattle.std.proofs.lemmas.Bool.{cases_eq, eq-eqb, ne_eqb}
-use Rattle.std.proofs.lemmas.List.{drop_more, drop_all, get_or_default, length-append}
+use Rattle.std.proofs.lemmas.List.{drop_more, drop_all, get_or_default}
 use Rattle.std.proofs.lemmas.List.Elements.{All-head, All-tail}
-use Rattle.std.proofs.Math.ListN.{get_or-append}
-use Rattle.std.proofs.Math.Seq.{get_or-append_seam}
 use Rattle.std.specs.List.{AllPairs}
 use Rattle.spec_exact.specs.Fraction.{ℚ, 0ℚ, ◌+ℚ◌, ◌*ℚ◌}
 use Rattle.spec_exact.specs.Sums.{sum_below}
@@ -26,7 +22,7 @@ use Rattle.spec_exact.proofs.Field.{+ℚ_zero, +ℚ_comm, +ℚ_assoc, *ℚ_comm,
 use Rattle.spec_exact.proofs.Ruleset.{zero-*ℚ}
 use Rattle.spec_exact.proofs.Sums.{sum_below_same, sum_below_none}
 use Rattle.spec_model.specs.Kept.{AreEntries}
-use Rattle.spec_model.specs.Model.{Model, height, column, coefficient, cost, entry_of, part}
+use Rattle.spec_model.specs.Model.{Model, height, column, coefficient, entry_of, part}
 
 -- ---- the entry of a row
 
@@ -125,13 +121,6 @@ sums_more m z now new j es x e f a b w = (
       ∙ ap (λ n. sum_below n (λ k. coefficient m i k *ℚ part z k)) (sym (add-one j)),
 )
 
--- ---- sums of costs
-pub cost_more : (m : Model) (z : List ℚ) (j : ℕ) (s t c x : ℚ) → t ≡ s +ℚ c *ℚ x → c ≡ cost m j → x ≡ part z j →
-    s ≡ sum_below j (λ k. cost m k *ℚ part z k) → t ≡ sum_below (j + 1) (λ k. cost m k *ℚ part z k)
-cost_more m z j s t c x e f g h =
-    e ∙ ap₂ (λ a b. a +ℚ b *ℚ x) h f ∙ ap (λ y. sum_below j (λ k. cost m k *ℚ part z k) +ℚ cost m j *ℚ y) g
-    ∙ ap (λ n. sum_below n (λ k. cost m k *ℚ part z k)) (sym (add-one j))
-
 -- ---- a column's coefficients times the numbers of their rows
 
 -- the last two of three numbers that are added may change places
@@ -186,26 +175,6 @@ weigh_end n es y k s t h w =
     ∙ ap (λ z. s +ℚ z) (sym (sum_below_none n (λ i. part y i *ℚ entry_of [] i) (λ i _. *ℚ_zero (part y i))))
     ∙ ap (λ (ds : List (ℕ × ℚ)). s +ℚ sum_below n (λ i. part y i *ℚ entry_of ds i)) (sym (drop_all k es h))
     ∙ w
-
--- ---- a list to which a number is added
-pub pushed : (P : ℕ → ℚ → Type 0) (out new : List ℚ) (n : ℕ) (d : ℚ) → new ≡ out ++ d ∷ [] → P n d →
-    (length out ≡ n) × ((k : ℕ) → k < n → P k (part out k)) →
-    (length new ≡ n + 1) × ((k : ℕ) → k < n + 1 → P k (part new k))
-pushed P out new n d e p w = (
-  omega (arith, ap length e, length-append out (d ∷ []), w.0),
-  λ k l. ⊎_elim (last k) (before k l) (cases_eq k n),
-)
-  where
-    last : (k : ℕ) → k ≡ n → P k (part new k)
-    last k g =
-        subst (P k)
-        (sym (ap (λ us. part us k) e ∙ ap (λ i. part (out ++ d ∷ []) i) (g ∙ sym w.0) ∙ get_or-append_seam out d [] 0ℚ))
-        (subst (λ i. P i d) (sym g) p)
-
-    before : (k : ℕ) → k < n + 1 → k ≢ n → P k (part new k)
-    before k l o =
-        subst (P k) (sym (ap (λ us. part us k) e ∙ get_or-append out (d ∷ []) 0ℚ k (omega (arith, l, o, w.0))))
-        (w.1 k (omega (arith, l, o)))
 
 -- ---- a number of a list
 pub part_is : (z : List ℚ) (k : ℕ) (x : ℚ) → k < length z → x ≡ get_or z k x → x ≡ part z k

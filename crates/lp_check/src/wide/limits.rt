@@ -1,6 +1,6 @@
 // The limits of a row and of a column, as numbers of any width.
 ghost use Rattle.std.specs.Prelude.{◌≡◌, Ok, None, IfOk};
-ghost use Rattle.spec_exact.specs.Fraction.{◌+ℚ◌, ◌-ℚ◌};
+ghost use Rattle.spec_exact.specs.Fraction.{◌+ℚ◌};
 ghost use Rattle.spec_model.specs.Model as model;
 ghost use Rattle.spec_check.specs.Run as run;
 
@@ -31,13 +31,6 @@ fn sum(alloc: Global, v: Frac, w: Frac) -> Result<Ratio, AllocError>
     left.plus(alloc, &right)
 }
 
-// The difference of two fractions, at any width.
-fn difference(alloc: Global, v: Frac, w: Frac) -> Result<Ratio, AllocError>
-    ensures { IfOk result (λ r. r ≡ v -ℚ w) }
-{
-    sum(alloc, v, neg(w))
-}
-
 // The number that a limit of a row comes to, exactly, of any width; none where the limit is absent.
 fn taken(alloc: Global, limit: RowLimit) -> Result<Option<Ratio>, AllocError>
     ensures { IfOk result (λ l. l ≡ model.limit_of limit) }
@@ -50,7 +43,7 @@ fn taken(alloc: Global, limit: RowLimit) -> Result<Option<Ratio>, AllocError>
             Ok(Some(limit))
         }
         RowLimit::Difference(v, w) => {
-            let limit = difference(alloc, v, w)?;
+            let limit = sum(alloc, v, neg(w))?;
             Ok(Some(limit))
         }
     }
@@ -60,14 +53,12 @@ fn taken(alloc: Global, limit: RowLimit) -> Result<Option<Ratio>, AllocError>
 pub fn lower_limit(alloc: Global, row: &Row) -> Result<Option<Ratio>, AllocError>
     ensures { IfOk result (λ l. run.lower_run None row.now ≡ Ok l) }
 {
-    let limit = taken(alloc, lower_of(row))?;
-    Ok(limit)
+    taken(alloc, lower_of(row))
 }
 
 /// The most that the row's sum may be, of any width; none where there is no limit.
 pub fn upper_limit(alloc: Global, row: &Row) -> Result<Option<Ratio>, AllocError>
     ensures { IfOk result (λ l. run.upper_run None row.now ≡ Ok l) }
 {
-    let limit = taken(alloc, upper_of(row))?;
-    Ok(limit)
+    taken(alloc, upper_of(row))
 }
