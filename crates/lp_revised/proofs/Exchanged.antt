@@ -14,18 +14,6 @@ use Rattle.lp_revised.specs.Moved.{moves_by, exchanged_by}
 use Rattle.lp_revised.proofs.MovedBasics.{moves_are}
 
 module _ (starts : List (RowStart ℚ)) (s : Revised) (z : List ℚ) (p j : ℕ) (theta : ℚ) (to : Status) where
-  abbrev new_state : List ℚ → Revised
-  new_state shifted =
-      record {
-        bare = exchanged (turned s.bare shifted [] []) p j to;
-        pairs = with_pair s.pairs p z;
-        replaced = suc
-            s.replaced;
-      }
-
-  abbrev after_moves : List ℚ → Run Revised
-  after_moves values = shifted_run (Some number_limit) values j theta >>= λ shifted. Ok (new_state shifted)
-
   abbrev whole : Run Revised
   whole = exchanged_by starts s z p j theta to
 

@@ -5,6 +5,7 @@ pub mod Entered
 pub mod MovedBasics
 pub mod Sights
 pub mod Exchanged
+pub mod Found
 pub mod Basics
 pub mod Renewed
 pub mod Pivoted

@@ -133,14 +133,15 @@ impl Revised {
             (selection_at starts.now self.now.bare end.now) end.now.end) }
         ensures narrow { IfOk result IsNarrowCertificate }
     {
+        let x = self.point(alloc)?;
         match end.end {
             PrimalEnd::Optimal => Ok(Certificate::Optimal {
-                x: self.point(alloc)?,
+                x,
                 y: negatives_of(alloc, self.rows(), &end.multipliers)?,
             }),
             PrimalEnd::Unbounded { direction, .. } => match &end.column {
                 Some(column) => Ok(Certificate::Unbounded {
-                    x: self.point(alloc)?,
+                    x,
                     r: self.direction(alloc, starts, column, direction)?,
                 }),
                 None => unreachable!(),

@@ -59,7 +59,7 @@ impl Revised {
     }
 
     // Makes column `col` nonbasic at the bound `to`, with that bound as its value, or 0 for `AtZero`.
-    fn put_at(&mut self, col: u32, to: Status)
+    pub(crate) fn put_at(&mut self, col: u32, to: Status)
         requires { col < all_columns self.old.bare }
         ensures { self.new ≡ record self.old { bare = flipped self.old.bare col to self.old.bare.value } }
     {

@@ -46,18 +46,28 @@ impl Revised {
     pub(crate) fn wants_phase_one(&self) -> bool
         ensures { result ≡ phases.wants_phase_one self.now.bare }
     {
-        self.basic.iter().any(|k| self.is_artificial(*k))
+        for k in &self.basic {
+            if self.is_artificial(*k) {
+                return true;
+            }
+        }
+        false
     }
 
     // Whether phase one ended without a feasible point: some artificial is basic and not 0.
     pub(crate) fn is_stuck(&self) -> bool
         ensures { result ≡ phases.is_stuck self.now.bare }
     {
-        self.basic.iter().any(|k| self.is_wanting(*k))
+        for k in &self.basic {
+            if self.is_wanting(*k) {
+                return true;
+            }
+        }
+        false
     }
 
     // Sets both bounds of column `k` to 0.
-    fn fix(&mut self, k: u32)
+    pub(crate) fn fix(&mut self, k: u32)
         requires { k < tableaus.all_columns self.old.bare }
         ensures { self.new ≡ fixed_at self.old (slice_set self.old.bare.lower k (Some 0ℚ))
             (slice_set self.old.bare.upper k (Some 0ℚ)) }

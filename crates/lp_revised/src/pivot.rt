@@ -17,8 +17,7 @@ use crate::select::Column;
 use crate::state::{Revised, RowStart};
 use crate::stop::RevisedStop;
 use lp_form::{Form, Status};
-use lp_frac::{Frac, Fracs, Past, add, zero};
-use lp_tableau::stand;
+use lp_frac::{Frac, Fracs, Past, add};
 use std::alloc::{AllocError, Global};
 
 impl Revised {
@@ -68,17 +67,13 @@ impl Revised {
         requires column { col < all_columns self.old.bare }
         ensures { self.new ≡ record self.old { bare = exchanged self.old.bare place col to } }
     {
-        let leaving = self.basic(place) as usize;
-        let artificials = self.form_columns() as usize;
-        let value = stand(to, self.lower[leaving], self.upper[leaving]);
-        self.basic[place as usize] = col;
-        self.value[leaving] = value;
-        self.status[leaving] = to;
-        self.status[col as usize] = Status::Basic;
-        if leaving >= artificials {
-            self.lower[leaving] = Some(zero());
-            self.upper[leaving] = Some(zero());
+        let leaving = self.basic(place);
+        self.put_at(leaving, to);
+        if leaving >= self.form_columns() {
+            self.fix(leaving);
         }
+        self.basic[place as usize] = col;
+        self.status[col as usize] = Status::Basic;
     }
 
     // Makes the pivot without the renewal of factors: the entering column moves by `theta`, the basic columns move with

@@ -24,41 +24,8 @@ pub(crate) struct StepsEnd {
 }
 
 impl Revised {
-    // Makes the flip or the pivot of the entering column; an end changes nothing. After a refusal the state is spent.
-    fn make_with(
-        &mut self,
-        alloc: Global,
-        form: &Form,
-        starts: &[RowStart],
-        column: &Column,
-        choice: Choice,
-    ) -> Result<(), RevisedStop>
-        requires rows { form.now.rows ≡ self.old.bare.rows }
-        requires cols { form.now.cols ≡ self.old.bare.cols }
-        requires starts { length starts.now ≡ self.old.bare.rows }
-        requires few { self.old.replaced < replacements }
-        requires can { CanDo form.now self.old (Some column.now) choice }
-        ensures run { LeavesRevised (made_run form.now starts.now self.old (Some column.now) choice) self.new result }
-        ensures rows { self.new.bare.rows ≡ self.old.bare.rows }
-        ensures cols { self.new.bare.cols ≡ self.old.bare.cols }
-        ensures fresh { OnOk result (self.new.replaced < replacements) }
-    {
-        match choice {
-            Choice::End(_) => Ok(()),
-            Choice::Flip { .. } => {
-                self.flip(starts, column.solved.as_slice(), column.number)?;
-                Ok(())
-            }
-            Choice::Pivot {
-                place,
-                theta,
-                to,
-                ..
-            } => self.pivot(alloc, form, starts, column, place, theta, to),
-        }
-    }
-
-    // Makes the step that was selected. Where no column may enter nothing changes.
+    // Makes the step that was selected: the flip or the pivot of the entering column. Where no column may enter, and at
+    // an end, nothing changes. After a refusal the state is spent.
     fn make(
         &mut self,
         alloc: Global,
@@ -77,9 +44,21 @@ impl Revised {
         ensures cols { self.new.bare.cols ≡ self.old.bare.cols }
         ensures fresh { OnOk result (self.new.replaced < replacements) }
     {
-        match &selected.column {
-            Some(column) => self.make_with(alloc, form, starts, column, selected.choice),
-            None => Ok(()),
+        let Some(column) = &selected.column else {
+            return Ok(());
+        };
+        match selected.choice {
+            Choice::End(_) => Ok(()),
+            Choice::Flip { .. } => {
+                self.flip(starts, column.solved.as_slice(), column.number)?;
+                Ok(())
+            }
+            Choice::Pivot {
+                place,
+                theta,
+                to,
+                ..
+            } => self.pivot(alloc, form, starts, column, place, theta, to),
         }
     }
 
