@@ -55,20 +55,6 @@ fn look_into(
     }
 }
 
-// What a solve of the model with the sides alone shows of them: a few that no point meets together, a point that meets
-// them all, or that it gives up. Memory may run out.
-fn look_at(alloc: Global, model: &Model, budget: u64, sides: &Sides) -> Result<Look, AllocError>
-    requires model { IsUsualModel model.now }
-    requires present { All (IsSide model.now) sides.now }
-    requires read { All (IsRead (Some number_limit) model.now) sides.now }
-    ensures { IfOk result (IsSeen budget model.now sides.now) }
-{
-    let alone = only(alloc, model, sides.as_slice())?;
-    let look = look_into(alloc, model, budget, sides, &alone);
-    drop(alone);
-    look
-}
-
 // A list of the first sides and, behind them, of `others`. Memory may run out.
 fn joined(alloc: Global, first: &Sides, others: &[Side]) -> Result<Sides, AllocError>
     ensures { IfOk result (λ sides. sides ≡ first.now ++ others.now) }
@@ -93,7 +79,9 @@ fn look_at_both(
     ensures { IfOk result (IsSeen budget model.now (kept.now ++ others.now)) }
 {
     let sides = joined(alloc, kept, others)?;
-    let look = look_at(alloc, model, budget, &sides);
+    let alone = only(alloc, model, sides.as_slice())?;
+    let look = look_into(alloc, model, budget, &sides, &alone);
+    drop(alone);
     drop(sides);
     look
 }
