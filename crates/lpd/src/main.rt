@@ -82,8 +82,10 @@ fn end(rt: &HostRuntime, alloc: Global, ending: Ending<'_>) -> ExitCode {
 // The words of the command line, without the program's own name. Words that are no text fail all together. Memory
 // may run out.
 fn words_of(rt: &HostRuntime, alloc: Global) -> io::Result<Vec<String>> {
+    let mut args = env::args(rt)?;
+    drop(args.next());
     let mut words = Vec::new(alloc);
-    for word in env::args(rt)?.skip(1) {
+    for word in args {
         words.push(word)?;
     }
     Ok(words)

@@ -110,20 +110,15 @@ pub fn tell_refused(rt: &HostRuntime, words: &[String], reply: Option<&str>) -> 
     }
 }
 
-// What was refused, and why, by the reply. None where more is not known.
+// What was refused, and why, by the reply: `ERR`, the number of the error, a word, and what is refused. None where
+// more is not known.
 fn refusal_of<'a>(words: &[String], reply: Option<&'a str>) -> Option<Refusal<'a>> {
-    let (code, what) = code_and_what(reply?)?;
+    let (code, said) = reply?.strip_prefix("ERR ")?.split_once(' ')?;
+    let (_, what) = said.split_once(' ')?;
     match command_line_of(words) {
         Some(CommandLine::Read(command, style)) => refusal_by(command, style, code, what),
         _ => None,
     }
-}
-
-// The number of an error and what is refused, of a reply: `ERR`, the number, a word, and what is refused.
-fn code_and_what(reply: &str) -> Option<(&str, &str)> {
-    let (code, said) = reply.strip_prefix("ERR ")?.split_once(' ')?;
-    let (_, what) = said.split_once(' ')?;
-    Some((code, what))
 }
 
 // What was refused, and why, by the number of the error.
@@ -135,10 +130,17 @@ fn refusal_by<'a>(
 ) -> Option<Refusal<'a>> {
     match code {
         "5" => Some(unknown(command, what)),
-        "8" => of_model(command, style, what),
-        "12" => Some(repeated(what)),
-        "14" => Some(of_certificate(command, what)),
-        "17" => of_basis(what),
+        "8" => of_line(command, style, what, "", &MODEL_FAULTS),
+        "12" => Some(Refusal::Name {
+            why: "the certificate has two lines of one letter for",
+            name: what,
+        }),
+        "14" => Some(Refusal::Line {
+            number: what,
+            of: " of the certificate",
+            why: expected(what, matches!(command, TextCommand::CheckWide)),
+        }),
+        "17" => of_line(command, style, what, " of the basis file", &BASIS_FAULTS),
         _ => None,
     }
 }
@@ -156,27 +158,22 @@ fn unknown<'a>(command: TextCommand<&[u8]>, name: &'a str) -> Refusal<'a> {
     Refusal::Name { why, name }
 }
 
-// The refusal of a certificate that has a name twice.
-fn repeated(name: &str) -> Refusal<'_> {
-    Refusal::Name {
-        why: "the certificate has two lines of one letter for",
-        name,
-    }
-}
-
-// The refusal of a line of the model, from its number and the word of its fault; none for another word.
-fn of_model<'a>(command: TextCommand<&[u8]>, style: Style, what: &'a str) -> Option<Refusal<'a>> {
+// The refusal of a line, from its number and the word of its fault, where these are the faults of its text; none for
+// another word. `of` says which text this is, if it is not the model's.
+fn of_line<'a>(
+    command: TextCommand<&[u8]>,
+    style: Style,
+    what: &'a str,
+    of: &'static str,
+    faults: &[Meaning],
+) -> Option<Refusal<'a>> {
     let (number, fault) = what.split_once(' ')?;
     let why = match fault {
         "M3" => other_form(style),
         "M16" => limits(command),
-        _ => meaning(&MODEL_FAULTS, fault)?,
+        _ => meaning(faults, fault)?,
     };
-    Some(Refusal::Line {
-        number,
-        of: "",
-        why,
-    })
+    Some(Refusal::Line { number, of, why })
 }
 
 // That the fields of a card are not those of its section, and how a text in the other form is read.
@@ -206,26 +203,6 @@ fn limits(command: TextCommand<&[u8]>) -> &'static str {
         _ => {
             "more than 256 rows, 512 columns or 16,384 bytes of a line; lpd solve --wide takes larger models"
         }
-    }
-}
-
-// The refusal of a line of the basis file, from its number and the word of its fault; none for another word.
-fn of_basis(what: &str) -> Option<Refusal<'_>> {
-    let (number, fault) = what.split_once(' ')?;
-    Some(Refusal::Line {
-        number,
-        of: " of the basis file",
-        why: meaning(&BASIS_FAULTS, fault)?,
-    })
-}
-
-// The refusal of a line of the certificate, from its number.
-fn of_certificate<'a>(command: TextCommand<&[u8]>, number: &'a str) -> Refusal<'a> {
-    let is_wide = matches!(command, TextCommand::CheckWide);
-    Refusal::Line {
-        number,
-        of: " of the certificate",
-        why: expected(number, is_wide),
     }
 }
 

@@ -16,8 +16,10 @@ pub fn tell_unbound(rt: &HostRuntime, unbound: &Unbound<'_>) -> io::Result<()> {
     match why(unbound.error.kind()) {
         Some(why) => eprintln!(rt; "lpd: cannot listen on {address}: {why} (status 7)"),
         None => {
-            let error = unbound.error;
-            eprintln!(rt; "lpd: cannot listen on {address}: {error} (status 7)")
+            eprintln!(rt;
+                "lpd: cannot listen on {address}: {} (status 7)",
+                unbound.error
+            )
         }
     }
 }

@@ -10,6 +10,12 @@ use std::io;
 // The words that are answered by a notice.
 static NOTICES: [&str; 2] = ["--help", "--version"];
 
+// The values of `--form`.
+static FORMS: [&str; 2] = ["free", "fixed"];
+
+// What `range` takes as its first word.
+static RANGED: [&str; 3] = ["cost", "rhs", "all"];
+
 /// Writes on standard error that the words are no command line, and behind that line why. Where memory runs out, it says
 /// no more than what it has said by then.
 pub fn tell_words(rt: &HostRuntime, alloc: Global, words: &[String]) -> io::Result<()> {
@@ -99,9 +105,12 @@ fn fault_behind<'a>(
 
 // Whether options under this heading are the command's.
 fn is_of(command: &str, heading: &str) -> bool {
-    heading
-        .split(' ')
-        .any(|word| word.trim_end_matches(',') == command)
+    for word in heading.split(' ') {
+        if word.trim_end_matches(',') == command {
+            return true;
+        }
+    }
+    false
 }
 
 // Puts the options of a command behind its usage line. Memory may run out.
@@ -118,10 +127,8 @@ fn push_options(alloc: Global, line: &mut String, command: &str) -> Result<(), A
 // An option as a line of the usage shows it, behind a blank: ` [--NAME VALUE]`, or ` [--NAME]` for a switch, whose
 // value is empty. Memory may run out.
 fn option_of(alloc: Global, name: &str, value: &str) -> Result<String, AllocError> {
-    if value == "" {
-        return format!(in alloc; " [--{name}]");
-    }
-    format!(in alloc; " [--{name} {value}]")
+    let blank = if value == "" { "" } else { " " };
+    format!(in alloc; " [--{name}{blank}{value}]")
 }
 
 // The sentence that says what the fault of a command line is, with the word that is at fault. Memory may run out.
@@ -150,10 +157,12 @@ fn reason(
 
 // That a word behind the command is none of its options, or one too many. Memory may run out.
 fn no_option(alloc: Global, name: &str, word: &str) -> Result<String, AllocError> {
-    if word.starts_with('-') {
-        return format!(in alloc; "{name} has no option {word:?}");
-    }
-    format!(in alloc; "{name} takes no further word {word:?}")
+    let says = if word.starts_with('-') {
+        " has no option "
+    } else {
+        " takes no further word "
+    };
+    format!(in alloc; "{name}{says}{word:?}")
 }
 
 // That an option cannot have this value, and what the usage says of the option. Memory may run out.
@@ -228,12 +237,8 @@ fn hint(
     match (command, fault) {
         (None, WordFault::NoCommand(word)) => meant_command(alloc, text(word)),
         (Some(head), WordFault::NoOption(word)) => meant_option(alloc, head.name, text(word)),
-        (Some(_), WordFault::NotValue(b"--form", value)) => {
-            meant(alloc, text(value), &["free", "fixed"])
-        }
-        (Some(_), WordFault::NotPlain(Plain::Number, word)) => {
-            meant(alloc, text(word), &["cost", "rhs", "all"])
-        }
+        (Some(_), WordFault::NotValue(b"--form", value)) => meant(alloc, text(value), &FORMS),
+        (Some(_), WordFault::NotPlain(Plain::Number, word)) => meant(alloc, text(word), &RANGED),
         _ => Ok(String::new(alloc)),
     }
 }
@@ -289,11 +294,8 @@ fn nearest_option(
 // The question whether the option was meant, with this value where there is one. Of the value no control character is
 // written. Memory may run out.
 fn meant_value(alloc: Global, option: &str, value: &str) -> Result<String, AllocError> {
-    if value == "" {
-        return format!(in alloc; "; did you mean --{option}?");
-    }
-    let value = value.escape_debug();
-    format!(in alloc; "; did you mean --{option} {value}?")
+    let blank = if value == "" { "" } else { " " };
+    format!(in alloc; "; did you mean --{option}{blank}{}?", value.escape_debug())
 }
 
 // Whether the word may be the name of a file: the command reads standard input, and the word begins as no option does.
@@ -304,6 +306,8 @@ fn is_file(command: &str, word: &str) -> bool {
 // The question whether the word is the name of a file that was to be read. Of it no control character is written.
 // Memory may run out.
 fn meant_file(alloc: Global, word: &str) -> Result<String, AllocError> {
-    let file = word.escape_debug();
-    format!(in alloc; "; it reads standard input: did you mean < {file}?")
+    format!(in alloc;
+        "; it reads standard input: did you mean < {}?",
+        word.escape_debug()
+    )
 }
