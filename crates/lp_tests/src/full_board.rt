@@ -34,20 +34,17 @@ impl Publisher {
         }
     }
 
-    // Publishes the words, and notes what that came to.
-    fn publish(&mut self, board: &Board, words: &BasisWords)
+    // In its first turn publishes the words, and notes what that came to. In each later one looks for the basis with
+    // these words, and notes whether it is found at place 0.
+    fn turn(&mut self, board: &Board, words: &BasisWords)
         requires board { self.old.pass.board ≡ id_of board.now }
         requires formed { IsWellFormed words.now }
         ensures { self.new.pass.board ≡ id_of board.now }
     {
-        self.put = Some(board.publish(&mut self.pass, words));
-    }
-
-    // Looks for the basis with these words, and notes whether it is found at place 0.
-    fn look(&mut self, board: &Board, words: &BasisWords)
-        requires { self.old.pass.board ≡ id_of board.now }
-        ensures { self.new.pass.board ≡ id_of board.now }
-    {
+        if self.put.is_none() {
+            self.put = Some(board.publish(&mut self.pass, words));
+            return;
+        }
         let mut shape = [0u64; 25];
         shape.copy_from_slice(&words[..25]);
         self.has_found = board.look(&mut self.pass, &shape) == Look::Found(0, *words);
@@ -79,8 +76,8 @@ fn publishers(alloc: Global, board: &Board, mut first: Pass) -> Result<Vec<Publi
     Ok(all)
 }
 
-// Each publisher publishes the words, on a thread of its own.
-fn publish_all<R: Threads + Sync>(rt: &R, board: &Board, words: &BasisWords, all: &mut [Publisher])
+// Each publisher takes a turn, on a thread of its own.
+fn turn_all<R: Threads + Sync>(rt: &R, board: &Board, words: &BasisWords, all: &mut [Publisher])
     requires boards { All (λ one. one.pass.board ≡ id_of board.now) all.old }
     requires formed { IsWellFormed words.now }
     ensures { All (λ one. one.pass.board ≡ id_of board.now) all.new }
@@ -89,19 +86,7 @@ fn publish_all<R: Threads + Sync>(rt: &R, board: &Board, words: &BasisWords, all
         rt,
         all,
         PASSES,
-        &|_, one: &mut Publisher| one.publish(board, words),
-    );
-}
-
-// Each publisher looks for the words, on a thread of its own.
-fn look_all<R: Threads + Sync>(rt: &R, board: &Board, words: &BasisWords, all: &mut [Publisher])
-    requires { All (λ one. one.pass.board ≡ id_of board.now) all.old }
-{
-    thread::for_each_mut(
-        rt,
-        all,
-        PASSES,
-        &|_, one: &mut Publisher| one.look(board, words),
+        &|_, one: &mut Publisher| one.turn(board, words),
     );
 }
 
@@ -126,8 +111,8 @@ fn counts_of<R: Threads + Sync>(
 {
     let (board, pass) = Board::new(alloc, 1)?;
     let mut all = publishers(alloc, &board, pass)?;
-    publish_all(rt, &board, words, all.as_mut_slice());
-    look_all(rt, &board, words, all.as_mut_slice());
+    turn_all(rt, &board, words, all.as_mut_slice());
+    turn_all(rt, &board, words, all.as_mut_slice());
     Ok(counts(&all))
 }
 

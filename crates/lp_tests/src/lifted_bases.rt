@@ -72,7 +72,7 @@ pub(crate) fn statuses_of(alloc: Global, letters: &str) -> Result<Vec<Status>, A
 }
 
 // Whether the text of a value is the wanted one.
-fn is_value(alloc: Global, value: &Ratio, wanted: &str) -> bool {
+pub(crate) fn is_value(alloc: Global, value: &Ratio, wanted: &str) -> bool {
     match wide_text(alloc, value) {
         Ok(text) => are_same(text.as_slice(), wanted.as_bytes()),
         Err(_) => false,

@@ -24,12 +24,14 @@ fn put_three(columns: &mut Lines<Residue>) -> Result<(), AllocError> {
 
 // The residues of three words.
 fn residues(words: [u64; 3]) -> [Residue; 3] {
-    words.map(Residue::new)
+    let [a, b, c] = words;
+    [Residue::new(a), Residue::new(b), Residue::new(c)]
 }
 
 // The words of three residues.
 fn words(list: [Residue; 3]) -> [u64; 3] {
-    list.map(|residue| residue.word())
+    let [a, b, c] = list;
+    [a.word(), b.word(), c.word()]
 }
 
 // Asserts that the factors solve the matrix, and its transpose.
@@ -120,11 +122,17 @@ fn product(
     Ok(sums)
 }
 
-// Asserts that each sum is the wanted one.
-fn assert_same<R: Abort>(rt: &R, sums: &[Residue], wanted: &[Residue]) {
-    for (sum, wanted) in sums.iter().zip(wanted) {
-        assert_eq!(*rt; sum.word(), wanted.word());
+// Whether there are as many sums as wanted ones, and each is the wanted one.
+fn are_wanted(sums: &[Residue], wanted: &[Residue]) -> bool {
+    if sums.len() != wanted.len() {
+        return false;
     }
+    for place in 0..sums.len() {
+        if sums[place].word() != wanted[place].word() {
+            return false;
+        }
+    }
+    true
 }
 
 // The solution of the square matrix with these factors for a right side.
@@ -147,9 +155,8 @@ fn assert_solved<R: Abort>(
     factors: &Factors<Residue>,
     right: &[Residue],
 ) -> Result<(), AllocError> {
-    let x = solution(alloc, factors, right)?;
-    let sums = product(alloc, columns, &x)?;
-    assert_same(rt, &sums, right);
+    let sums = product(alloc, columns, &solution(alloc, factors, right)?)?;
+    assert!(*rt; are_wanted(&sums, right));
     Ok(())
 }
 

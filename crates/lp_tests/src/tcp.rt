@@ -7,6 +7,7 @@ use std::io::{Read, Write};
 use std::net::{Net, TcpListener, TcpStream};
 use std::sync::atomic::{AtomicU64, Ordering};
 use std::test::Fail;
+use std::thread::Threads;
 use std::time::{Clock, Duration};
 use std::{io, thread};
 
@@ -88,6 +89,16 @@ fn talk<R: Clock>(
     is_answered(&stream, "HOW\n", how) && is_answered(&stream, "QUIT\n", "BYE\n")
 }
 
+// Two clients talk at the same time, each on a stream of its own. Says of each whether it read every reply.
+fn talk_both<R: Threads + Clock + Sync>(rt: &R, one: TcpStream, two: TcpStream) -> (bool, bool) {
+    let (heard_one, heard_two) = (Heard::new(), Heard::new());
+    thread::join(
+        rt,
+        || talk(rt, one, &heard_one, &heard_two.loaded, PUBLISHES),
+        || talk(rt, two, &heard_two, &heard_one.solved, FINDS),
+    )
+}
+
 // A socket that listens on loopback, and the stream of a client that it has not accepted yet. Each read of the client
 // waits at most `PATIENCE` seconds.
 fn listening<R>(rt: &R) -> io::Result<(TcpListener, TcpStream)>
@@ -106,7 +117,6 @@ fn two_links_are_served_beside_each_other(rt: HostRuntime) -> Result<(), Fail> {
     let alloc = rt.alloc();
     let (first, one) = listening(&rt)?;
     let (second, two) = listening(&rt)?;
-    let (heard_one, heard_two) = (Heard::new(), Heard::new());
     let mut nets = vec![in alloc;
         TcpNet::new(&rt, Some(&first), 1),
         TcpNet::new(&rt, Some(&second), 2),
@@ -115,18 +125,13 @@ fn two_links_are_served_beside_each_other(rt: HostRuntime) -> Result<(), Fail> {
     let (served, (one_did, two_did)) = thread::join(
         &rt,
         || serve(&rt, alloc, &mut nets, 1, 4, &mut out),
-        || {
-            thread::join(
-                &rt,
-                || talk(&rt, one, &heard_one, &heard_two.loaded, PUBLISHES),
-                || talk(&rt, two, &heard_two, &heard_one.solved, FINDS),
-            )
-        },
+        || talk_both(&rt, one, two),
     );
     let is_written = out.written() == b"1 1 DONE\n2 1 DONE\n".as_slice();
     drop(out);
     drop(nets);
-    drop((first, second));
+    drop(first);
+    drop(second);
     assert_eq!(rt; [one_did, two_did, served.is_ok(), is_written], [true; 4]);
     Ok(())
 }

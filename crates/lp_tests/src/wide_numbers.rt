@@ -1,32 +1,29 @@
 // Texts of numbers past 127 bits.
-use lp_base::are_same;
-use lp_numtext::{WideFault, read_wide, wide_text};
+use crate::lifted_bases::is_value;
+use lp_numtext::{WideFault, read_wide};
 use std::alloc::Global;
 
 // Whether a text is read as a number whose text is `wanted`.
-fn is_written(alloc: Global, text: &[u8], wanted: &[u8]) -> bool {
-    let Ok(v) = read_wide(alloc, text) else {
-        return false;
-    };
-    match wide_text(alloc, &v) {
-        Ok(written) => are_same(written.as_slice(), wanted),
+fn is_written(alloc: Global, text: &[u8], wanted: &str) -> bool {
+    match read_wide(alloc, text) {
+        Ok(value) => is_value(alloc, &value, wanted),
         Err(_) => false,
     }
 }
 
 // Numbers past 127 bits in each spelling, and their texts in lowest terms.
-const NUMBERS: [(&[u8], &[u8]); 5] = [
+static NUMBERS: [(&[u8], &str); 5] = [
     (
         b"-3092265124392067986218766778593727636212645132006/10307550414640226620729222595312425454042150440020",
-        b"-0.3",
+        "-0.3",
     ),
     (
         b"+7000000000000000000000000000000000000000000000000000000000000/21",
-        b"1000000000000000000000000000000000000000000000000000000000000/3",
+        "1000000000000000000000000000000000000000000000000000000000000/3",
     ),
-    (b"12.5e40", b"125000000000000000000000000000000000000000"),
-    (b"-15D-41", b"-3/20000000000000000000000000000000000000000"),
-    (b"0e99999", b"0"),
+    (b"12.5e40", "125000000000000000000000000000000000000000"),
+    (b"-15D-41", "-3/20000000000000000000000000000000000000000"),
+    (b"0e99999", "0"),
 ];
 
 // Why a text is not read as a number; none if it is read.
@@ -42,7 +39,7 @@ fn fault_of(alloc: Global, text: &[u8]) -> Option<WideFault> {
 #[test]
 fn wide_numbers(rt: HostRuntime) {
     let alloc = rt.alloc();
-    for (text, wanted) in NUMBERS {
+    for (text, wanted) in &NUMBERS {
         assert!(rt; is_written(alloc, text, wanted));
     }
     assert!(rt; matches!(fault_of(alloc, b"1e16384"), None));

@@ -72,24 +72,47 @@ fn published(alloc: Global, world: &mut World, session: u32) -> Option<Put> {
     }
 }
 
+// Each of three sessions loads the model.
+fn load_all(alloc: Global, world: &mut World) -> Result<(), AllocError> {
+    for session in 1..4 {
+        load(alloc, world, session)?;
+    }
+    Ok(())
+}
+
+// Two sessions come to the claim of a place before either of them claims one. A third one comes later, and is done
+// before the first.
+fn publish_all(alloc: Global, world: &mut World) {
+    come_to_the_claim(alloc, world, 1);
+    come_to_the_claim(alloc, world, 2);
+    step(alloc, world, 1, Act::Claim);
+    step(alloc, world, 2, Act::Claim);
+    come_to_the_claim(alloc, world, 3);
+    step(alloc, world, 3, Act::Claim);
+    step(alloc, world, 3, Act::Done);
+    step(alloc, world, 1, Act::Done);
+}
+
 // Of three sessions that publish at the same time, one is raced for its place, and a later one is done first.
 #[test]
 fn one_session_is_raced_and_one_overtaken(rt: HostRuntime) -> Result<(), Fail> {
     let alloc = rt.alloc();
     let mut world = World::new(alloc, 3, 4)?;
-    for session in 1..4 {
-        load(alloc, &mut world, session)?;
-    }
-    come_to_the_claim(alloc, &mut world, 1);
-    come_to_the_claim(alloc, &mut world, 2);
-    step(alloc, &mut world, 1, Act::Claim);
-    step(alloc, &mut world, 2, Act::Claim);
-    come_to_the_claim(alloc, &mut world, 3);
-    step(alloc, &mut world, 3, Act::Claim);
-    step(alloc, &mut world, 3, Act::Done);
-    step(alloc, &mut world, 1, Act::Done);
-    assert_eq!(rt; published(alloc, &mut world, 1), Some(Put::Published(0)));
-    assert_eq!(rt; published(alloc, &mut world, 2), Some(Put::Raced(1)));
-    assert_eq!(rt; published(alloc, &mut world, 3), Some(Put::Published(1)));
+    load_all(alloc, &mut world)?;
+    publish_all(alloc, &mut world);
+    let puts = [
+        published(alloc, &mut world, 1),
+        published(alloc, &mut world, 2),
+        published(alloc, &mut world, 3),
+    ];
+    drop(world);
+    assert_eq!(rt;
+        puts,
+        [
+            Some(Put::Published(0)),
+            Some(Put::Raced(1)),
+            Some(Put::Published(1))
+        ]
+    );
     Ok(())
 }
